@@ -42,6 +42,12 @@ pub struct Profile {
     pub enabled: bool,
 }
 
+// The profiles in force: the first `count` of `list`. A count above 16 is a list that the box refuses.
+pub struct Profiles {
+    pub list: [Profile; 16],
+    pub count: u8,
+}
+
 pub fn default_settings() -> Settings
     ensures { λ r. ⌜ r ≡ defaultSettings ⌝ }
 {
