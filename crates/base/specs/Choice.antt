@@ -2,6 +2,7 @@
 use mathlib.Core.Bool.{Bool, true, false}
 use mathlib.Core.Path.{_≡_, refl}
 use Prim.Native.Nat.{ℕ}
+use native.Mathlib.Omega.{arith}
 
 -- The first where the test is true, else the second.
 abbrev pub pick : {A : Type 0} → Bool → A → A → A
@@ -17,3 +18,7 @@ one false = 0
 pub cases : (P : Type 0) (b : Bool) → (b ≡ true → P) → (b ≡ false → P) → P
 cases P true f g = f refl
 cases P false f g = g refl
+
+-- No test is both.
+pub false-true : {A : Type 0} → false ≡ true → A
+false-true e = absurd (let z : _≡_ {A = ℕ} 0 1 = cc in omega arith)

@@ -1,0 +1,47 @@
+-- Letters and hex digits in ASCII: `0` is 48, `9` 57, `A` 65, `F` 70, `a` 97, `f` 102, `z` 122.
+use mathlib.Core.Bool.{Bool, true, false, _&&_}
+use mathlib.Core.Path.{_≡_, refl}
+use Prim.Native.Nat.{ℕ, _+_, _-_, _%_, _≤_, _<_}
+use native.Mathlib.Omega.{arith}
+use lib.Dec.{leb, ltb}
+use borrow.Author.Tests.{leb-true, leb-false, ltb-true, ltb-false}
+use Rattle.base.specs.Choice.{pick, cases, false-true}
+
+unfoldable pub between : ℕ → ℕ → ℕ → Bool
+between low b high = leb low b && leb b high
+
+-- A letter in upper case; any other byte as it is.
+unfoldable pub upper : ℕ → ℕ
+upper b = pick (between 97 b 122) (b - 32) b
+
+-- The value of a hex digit in either letter case; 16 for any other byte.
+unfoldable pub hexValue : ℕ → ℕ
+hexValue b =
+    pick (between 48 b 57) (b - 48)
+    (pick (between 65 b 70) (b - 65 + 10)
+    (pick (between 97 b 102) (b - 97 + 10) 16))
+
+-- The digit of the last four bits, in upper case.
+unfoldable pub hexDigit : ℕ → ℕ
+hexDigit n = pick (ltb (n % 16) 10) (48 + n % 16) (65 + (n % 16 - 10))
+
+-- What a test of `between` tells.
+module _ (low b high : ℕ) where
+  pub between-low : between low b high ≡ true → low ≤ b
+  unfolding between
+  between-low e = cases _ (leb low b) (λ t. leb-true low b t) (λ t. false-true (rw t at e))
+
+  pub between-high : between low b high ≡ true → b ≤ high
+  unfolding between
+  between-high e = cases _ (leb low b) (λ t. leb-true b high (rw t at e)) (λ t. false-true (rw t at e))
+
+pub hexValue-le : (b : ℕ) → hexValue b ≤ 16
+unfolding hexValue
+hexValue-le b =
+    cases _ (between 48 b 57)
+    (λ e. rw e (omega (arith, between-high 48 b 57 e)))
+    (λ e. rw e (cases _ (between 65 b 70)
+    (λ f. rw f (omega (arith, between-high 65 b 70 f)))
+    (λ f. rw f (cases _ (between 97 b 102)
+    (λ g. rw g (omega (arith, between-high 97 b 102 g)))
+    (λ g. rw g (omega arith))))))
