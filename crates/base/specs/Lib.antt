@@ -1,3 +1,4 @@
 pub mod Choice
 pub mod Table
 pub mod Times
+pub mod Write
