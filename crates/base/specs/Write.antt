@@ -1,11 +1,11 @@
 -- Bytes written into lent memory, and what of it stays.
 use mathlib.Core.List.{List, [], _∷_, _++_, append-assoc, append-nil}
 use mathlib.Core.Path.{_≡_, refl, ap, sym, _∙_}
-use Prim.Native.Nat.{ℕ, suc, _+_, _<_, _≤_}
+use Prim.Native.Nat.{ℕ, suc, _+_, _-_, _<_, _≤_}
 use native.Mathlib.Omega.{arith}
 use native.Mathlib.Numerals.{add-one}
-use lib.ListN.{length, take, drop, set, length-append, length-take, length-drop, take-append-drop}
-use lib.Seq.{length-take-le, take-at, drop-at, drop-append-add, drop-drop, set-split}
+use lib.ListN.{length, take, drop, set, length-append, length-take, length-drop, take-append-drop, drop-of-length-le}
+use lib.Seq.{length-take-le, take-all, take-length, take-at, drop-at, drop-append-add, drop-drop, set-split}
 
 -- The memory d with the text s written from the place at; before and behind it d is as it was.
 unfoldable pub over : List ℕ → ℕ → List ℕ → List ℕ
@@ -52,3 +52,17 @@ module _ (d : List ℕ) (at : ℕ) where
         ∙ ap (λ (x : List ℕ). (take at d ++ s) ++ (t ++ x)) b
         ∙ append-assoc (take at d) s (t ++ drop (at + length (s ++ t)) d)
         ∙ ap (λ (x : List ℕ). take at d ++ x) (sym (append-assoc s t (drop (at + length (s ++ t)) d)))
+
+-- A copy of s into the start of d, as `bytes::copy` says it.
+pub over-copy : (s d : List ℕ) → take (length s) s ++ drop (length s) d ≡ over d 0 s
+unfolding over
+over-copy s d = let z : 0 + length s ≡ length s = omega arith in rw (z, take-length s)
+
+-- A text written through `&mut d[at..]`, once that part has come back as p.
+pub over-lent : (d : List ℕ) (at : ℕ) (s p : List ℕ) → at ≤ length d → p ≡ over (take (length d - at) (drop at d)) 0 s
+    → take at d ++ (p ++ drop (length d - at) (drop at d)) ≡ over d at s
+over-lent d at s p h e =
+    let n : length (drop at d) ≡ length d - at = length-drop at d in
+    let t : take (length d - at) (drop at d) ≡ drop at d = take-all (length d - at) (drop at d) (omega arith) in
+    let w : p ≡ over (drop at d) 0 s = rw t at e in
+    rw (drop-of-length-le (drop at d) {i = length d - at} (omega arith), append-nil, w) (sym (over-part d at s))

@@ -1,16 +1,17 @@
 -- Laws of the definitions of `Classify`.
 use mathlib.Core.Bool.{Bool, true, false, _&&_}
 use mathlib.Core.List.{List, [], _∷_}
-use mathlib.Core.Path.{_≡_, refl, sym, _∙_}
-use Prim.Native.Nat.{ℕ, suc, _+_, _<_, _≤_}
+use mathlib.Core.Path.{_≡_, refl, ap, sym, _∙_}
+use Prim.Native.Nat.{ℕ, suc, _+_, _-_, _%_, _<_, _≤_}
 use native.Mathlib.Omega.{arith}
 use native.Mathlib.Numerals.{add-one}
-use lib.Dec.{eqb}
-use lib.ListN.{length, getD, drop, drop-of-length-le}
-use lib.Seq.{drop-cons}
+use lib.Dec.{eqb, leb}
+use lib.ListN.{length, getD, take, drop, drop-of-length-le}
+use lib.Seq.{drop-cons, take-all, getD-take, length-take-le}
+use borrow.Author.Tests.{le-leb, leb-true, leb-false}
 use Rattle.ascii.specs.Chars.{upper}
-use Rattle.base.specs.Choice.{pick}
-use Rattle.command.specs.Classify.{sameText, indexOf}
+use Rattle.base.specs.Choice.{pick, cases}
+use Rattle.command.specs.Classify.{sameText, indexOf, rangeTexts, stripped, pidOf, commandOf}
 
 -- Two texts of different lengths differ.
 pub same-length : (xs ys : List ℕ) → (length xs ≡ length ys → ⊥) → sameText xs ys ≡ false
@@ -57,3 +58,38 @@ module _ (ts : List (List ℕ)) (cmd : List ℕ) (i : ℕ) where
   pub sought-end : length ts ≤ i → Sought ts cmd i → i ≡ indexOf ts cmd
   unfolding indexOf
   sought-end h s = let a = rw (drop-of-length-le ts h) at s in omega arith
+
+-- A range command has four bytes, once stripped.
+index-long : (s : List ℕ) → (length s ≡ 4 → ⊥) → indexOf rangeTexts s ≡ 8
+unfolding indexOf rangeTexts
+index-long s h =
+    simp (differs 48 48, differs 50 48, differs 52 48, differs 54 48, differs 56 48, differs 65 48, differs 67 48, differs 69 48)
+  where
+    differs : (a b : ℕ) → sameText s (48 ∷ 49 ∷ a ∷ b ∷ []) ≡ false
+    differs a b = same-length s (48 ∷ 49 ∷ a ∷ b ∷ []) h
+
+-- Which PID a command asks for is decided by its first four bytes.
+pid-start : (s t : List ℕ) → 4 ≤ length s → 4 ≤ length t → ((i : ℕ) → i < 4 → getD s i 0 ≡ getD t i 0) → pidOf s ≡ pidOf t
+unfolding pidOf
+pid-start s t h k same =
+    rw (le-leb 4 (length s) h, le-leb 4 (length t) k, same 0 (omega arith), same 1 (omega arith), same 2 (omega arith), same 3 (omega arith))
+
+module _ (cmd : List ℕ) where
+  class-of-long : 6 < length cmd → commandOf cmd ≡ commandOf (take 6 cmd)
+  unfolding commandOf stripped
+  class-of-long h =
+      let n = length cmd - length cmd % 2 in
+      let six : length (take 6 cmd) ≡ 6 = length-take-le 6 cmd (omega arith) in
+      let even : 6 ≤ n = omega arith in
+      let whole : take 6 (take 6 cmd) ≡ take 6 cmd = take-all 6 (take 6 cmd) (omega arith) in
+      let s : length (take n cmd) ≡ n = length-take-le n cmd (omega arith) in
+      rw (six, whole, index-long (take n cmd) (λ z. omega arith), index-long (take 6 cmd) (λ z. omega arith))
+      (pid-start (take n cmd) (take 6 cmd) (omega arith) (omega arith)
+      (λ i b. rw (getD-take n cmd i 0 (omega arith), getD-take 6 cmd i 0 (omega arith))))
+
+  -- A command of more than six bytes asks for what its first six ask for.
+  pub class-of-six : commandOf cmd ≡ commandOf (take 6 cmd)
+  class-of-six =
+      cases _ (leb (length cmd) 6)
+      (λ e. ap commandOf (sym (take-all 6 cmd (leb-true _ _ e))))
+      (λ e. class-of-long (leb-false _ _ e))

@@ -12,6 +12,7 @@ use Rattle.command.specs.declared.Command.the-variants.{Range, Pid, Unknown}
 use Rattle.transcript.specs.declared.Line.{Line}
 use Rattle.transcript.specs.declared.Text.{Text}
 use Rattle.transcript.specs.declared.Fed.{Fed}
+use Rattle.transcript.specs.declared.Stepped.{Stepped}
 
 -- The class: `range`, `pid` or `?`.
 unfoldable pub className : Command → List ℕ
@@ -59,6 +60,9 @@ stepText l b = pick (eqb b 10) (tailText (commandOf (keptOf l))) (b ∷ [])
 
 unfoldable pub stepLine : Line → ℕ → Line
 stepLine l b = pick (eqb b 10) startLine (keepOf l b)
+
+unfoldable pub steppedOf : Line → ℕ → ℕ → Stepped
+steppedOf l b at = record { line = stepLine l b; at = at + length (stepText l b) }
 
 -- What a part of the input writes, and the line after it.
 unfoldable pub partText : Line → List ℕ → List ℕ

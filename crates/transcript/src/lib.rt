@@ -1,11 +1,11 @@
 // What the program `commands` writes: each line of its input, the line's class and its number.
 use command::Command;
 ghost use mathlib.Core.Path.{_≡_};
-ghost use Prim.Native.Nat.{_+_, _≤_};
+ghost use Prim.Native.Nat.{_+_, _≤_, min};
 ghost use lib.ListN.{length};
 ghost use Rattle.base.specs.Write.{over};
 ghost use Rattle.command.specs.Classify.{commandOf};
-ghost use Rattle.transcript.specs.Lines.{startLine, keptOf, textOf, keepOf, tailText, lastText, stepText, stepLine, usable, partText, fedOf};
+ghost use Rattle.transcript.specs.Lines.{startLine, keptOf, textOf, keepOf, tailText, lastText, stepText, steppedOf, usable, partText, fedOf};
 
 // The start of the line that is being read: the first `kept` of `head`. No command's class depends on
 // more than six bytes, so a line may be of any length.
@@ -25,6 +25,11 @@ pub struct Fed {
     pub line: Line,
     pub used: usize,
     pub written: usize,
+}
+
+struct Stepped {
+    line: Line,
+    at: usize,
 }
 
 pub fn start() -> Line
@@ -92,6 +97,65 @@ fn tail(c: Command) -> Text
             len: 5,
         },
     }
+}
+
+fn put(t: Text, out: &mut [u8], at: usize) -> usize
+    requires { ⌜ (t .len ≤ 9) × (at + 9 ≤ length (now out)) ⌝ }
+    ensures { λ r. ⌜ r ≡ at + length (textOf t) ⌝ }
+    ensures { λ r. ⌜ now (out .exit) ≡ over (now (out .entry)) at (textOf t) ⌝ }
+{
+    let bytes = t.bytes;
+    let n = t.len;
+    bytes::copy(&bytes[..n], &mut out[at..]);
+    at + n
+}
+
+// What one byte of the input writes, and the line after it.
+fn step(line: Line, b: u8, out: &mut [u8], at: usize) -> Stepped
+    requires { ⌜ at + 9 ≤ length (now out) ⌝ }
+    ensures { λ r. ⌜ r ≡ steppedOf line b at ⌝ }
+    ensures { λ r. ⌜ now (out .exit) ≡ over (now (out .entry)) at (stepText line b) ⌝ }
+{
+    if b == b'\n' {
+        let next = put(tail(class_of(line)), out, at);
+        return Stepped {
+            line: start(),
+            at: next,
+        };
+    }
+    out[at] = b;
+    Stepped {
+        line: keep(line, b),
+        at: at + 1,
+    }
+}
+
+// Uses as much of the input as surely has room in out, nine bytes for each.
+pub fn feed(line: Line, input: &[u8], out: &mut [u8]) -> Fed
+    ensures { λ r. ⌜ r ≡ fedOf line (now (input .entry)) (now (out .entry)) ⌝ }
+    ensures { λ r. ⌜ now (out .exit) ≡ over (now (out .entry)) 0 (partText line (usable (now (input .entry)) (now (out .entry)))) ⌝ }
+{
+    let n = least(input.len(), out.len() / 9);
+    let mut current = line;
+    let mut at = 0;
+    let mut i = 0;
+    while i < n {
+        let s = step(current, input[i], out, at);
+        current = s.line;
+        at = s.at;
+        i += 1;
+    }
+    Fed {
+        line: current,
+        used: n,
+        written: at,
+    }
+}
+
+fn least(a: usize, b: usize) -> usize
+    ensures { λ r. ⌜ r ≡ min a b ⌝ }
+{
+    if a < b { a } else { b }
 }
 
 // What follows the last line, where the input ends without a line feed: nothing where that line is empty.
