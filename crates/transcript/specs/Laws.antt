@@ -2,7 +2,7 @@
 use mathlib.Core.Bool.{Bool, true, false}
 use mathlib.Core.List.{List, [], _∷_, _++_, append-assoc, append-nil}
 use mathlib.Core.Path.{_≡_, refl, ap, sym, _∙_}
-use Prim.Native.Nat.{ℕ, zero, suc, _+_, _*_, _<_, _≤_, min}
+use Prim.Native.Nat.{ℕ, zero, suc, _+_, _*_, _/_, _<_, _≤_, min}
 use native.Mathlib.Omega.{arith}
 use native.Mathlib.Numerals.{add-one}
 use lib.Dec.{eqb, ltb}
@@ -16,7 +16,7 @@ use Rattle.command.specs.Laws.{class-of-six}
 use Rattle.command.specs.declared.Command.{Command}
 use Rattle.command.specs.declared.Command.the-variants.{Range, Pid, Unknown}
 use Rattle.transcript.specs.declared.Line.{Line}
-use Rattle.transcript.specs.Lines.{className, numberText, tailText, lastText, output, keptOf, keepOf, startLine, stepText, stepLine, partText, partLine}
+use Rattle.transcript.specs.Lines.{className, numberText, tailText, lastText, output, keptOf, keepOf, startLine, stepText, stepLine, partText, partLine, usable}
 
 pub tail-length : (c : Command) → length (tailText c) ≤ 9
 unfolding tailText className numberText
@@ -98,3 +98,11 @@ module _ (l : Line) (input d : List ℕ) where
           at-is = rw (text-next l input i h, length-append, f .line-is, f .at-is);
           out-is = rw (text-next l input i h, f .line-is, f .at-is, f .out-is) (rw z at (over-over d 0 p (omega arith) (stepText (partLine l (take i input)) (getD input i 0))));
         }
+
+-- What is written lies within the memory.
+pub fed-within : (l : Line) (input out : List ℕ) → length (partText l (usable input out)) ≤ length out
+unfolding usable
+fed-within l input out =
+    let t = text-length l (take (min (length input) (length out / 9)) input) in
+    let n = length-take-le (min (length input) (length out / 9)) input (omega arith) in
+    omega arith

@@ -67,7 +67,7 @@ fn class_of(line: Line) -> Command
 // What follows a line: a tab, the class, a tab, the number, a line feed.
 fn tail(c: Command) -> Text
     ensures { λ r. ⌜ textOf r ≡ tailText c ⌝ }
-    ensures { λ r. ⌜ r .len ≤ 9 ⌝ }
+    ensures { λ r. ⌜ r .len ≤ length (r .bytes) ⌝ }
 {
     match c {
         Command::Range(k) => Text {
@@ -100,7 +100,7 @@ fn tail(c: Command) -> Text
 }
 
 fn put(t: Text, out: &mut [u8], at: usize) -> usize
-    requires { ⌜ (t .len ≤ 9) × (at + 9 ≤ length (now out)) ⌝ }
+    requires { ⌜ (t .len ≤ length (t .bytes)) × (at + 9 ≤ length (now out)) ⌝ }
     ensures { λ r. ⌜ r ≡ at + length (textOf t) ⌝ }
     ensures { λ r. ⌜ now (out .exit) ≡ over (now (out .entry)) at (textOf t) ⌝ }
 {
@@ -161,7 +161,7 @@ fn least(a: usize, b: usize) -> usize
 // What follows the last line, where the input ends without a line feed: nothing where that line is empty.
 pub fn finish(line: Line) -> Text
     ensures { λ r. ⌜ textOf r ≡ lastText (keptOf line) ⌝ }
-    ensures { λ r. ⌜ r .len ≤ 9 ⌝ }
+    ensures { λ r. ⌜ r .len ≤ length (r .bytes) ⌝ }
 {
     if line.kept == 0 {
         return Text {

@@ -1,4 +1,3 @@
--- `transcript::put` meets its contract.
 use Rattle.transcript.specs.Lines.{textOf}
 use Rattle.base.specs.Write.{over, over-copy, over-lent}
 use mathlib.Core.Path.{_≡_, refl, sym, ap, _∙_}
@@ -7,6 +6,8 @@ use lib.ListN.{length, length-map, length-take, length-drop}
 use borrow.Author.Needs.{needs}
 use Rattle.transcript.proofs.put.Statement.{statement}
 use Rattle.transcript.proofs.put.Tie as tie
+
+-- `transcript::put` meets its contract.
 
 -- a text has room for nine bytes
 nine : (c : tie.Start) → length (c .args .t .bytes) ≡ 9
@@ -31,7 +32,7 @@ copy-requires : tie.Need-copy-requires
 copy-requires c κs = let n = nine (c .before .before .before .before) in simp (length-take, length-drop) (omega arith)
 
 add-result : tie.Need-add-result
-add-result c = search needs
+add-result c = omega (arith, nine (c .before .before .before .before .before .before .before))
 
 same-length : tie.Need-same-length
 same-length c = search needs
