@@ -66,3 +66,7 @@ over-lent d at s p h e =
     let t : take (length d - at) (drop at d) ≡ drop at d = take-all (length d - at) (drop at d) (omega arith) in
     let w : p ≡ over (drop at d) 0 s = rw t at e in
     rw (drop-of-length-le (drop at d) {i = length d - at} (omega arith), append-nil, w) (sym (over-part d at s))
+
+-- A text written one byte at a time.
+pub over-cons : (d : List ℕ) (at b : ℕ) (s : List ℕ) → at < length d → over d at (b ∷ s) ≡ over (set d at b) (at + 1) s
+over-cons d at b s h = sym (ap (λ (x : List ℕ). over x (at + 1) s) (sym (over-one d at b h)) ∙ over-over d at (b ∷ []) (omega arith) s)
