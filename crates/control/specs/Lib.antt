@@ -1,1 +1,4 @@
 pub mod Speed
+pub mod Outbox
+pub mod Told
+pub mod Names

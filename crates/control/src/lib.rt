@@ -1,4 +1,6 @@
 // The control messages by which the manager tells the poller what to poll.
+pub mod outbox;
+
 use config::PidPriority;
 
 // The Rust's DongleMessage.

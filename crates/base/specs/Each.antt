@@ -1,0 +1,66 @@
+-- A list whose first n are changed one by one, as a loop does it; and whether some of the first n pass a test.
+use mathlib.Core.Bool.{Bool, true, false, _||_}
+use mathlib.Core.List.{List, [], _∷_, map}
+use mathlib.Core.Path.{_≡_, refl, ap}
+use Prim.Native.Nat.{ℕ, zero, suc, _+_, _<_, _≤_}
+use native.Mathlib.Omega.{arith}
+use native.Mathlib.Numerals.{add-one}
+use lib.ListN.{length, getD, set, drop, drop-of-length-le}
+use lib.Seq.{drop-cons}
+
+unfoldable pub eachOf : {A : Type 0} → ℕ → (A → A) → List A → List A
+eachOf zero f xs = xs
+eachOf (suc n) f [] = []
+eachOf (suc n) f (x ∷ xs) = f x ∷ eachOf n f xs
+
+unfoldable pub someOf : {A : Type 0} → (A → Bool) → List A → Bool
+someOf g [] = false
+someOf g (x ∷ xs) = g x || someOf g xs
+
+module _ {A : Type 0} (f : A → A) where
+  pub each-at : (n : ℕ) (xs : List A) (d : A) → getD (eachOf n f xs) n d ≡ getD xs n d
+  unfolding eachOf
+  each-at zero xs d = refl
+  each-at (suc n) [] d = refl
+  each-at (suc n) (x ∷ xs) d = each-at n xs d
+
+  pub each-length : (n : ℕ) (xs : List A) → length (eachOf n f xs) ≡ length xs
+  unfolding eachOf
+  each-length zero xs = refl
+  each-length (suc n) [] = refl
+  each-length (suc n) (x ∷ xs) = ap suc (each-length n xs)
+
+  each-more : (n : ℕ) (xs : List A) (d : A) → n < length xs → set (eachOf n f xs) n (f (getD xs n d)) ≡ eachOf (suc n) f xs
+  unfolding eachOf
+  each-more n [] d h = let z : ⊥ = omega arith in absurd z
+  each-more zero (x ∷ xs) d h = refl
+  each-more (suc n) (x ∷ xs) d h = ap (λ (t : List A). f x ∷ t) (each-more n xs d (omega arith))
+
+  -- One more, by the numbers that a loop has.
+  pub each-step : (n : ℕ) (xs : List A) (d : A) → n < length xs → set (eachOf n f xs) n (f (getD (eachOf n f xs) n d)) ≡ eachOf (n + 1) f xs
+  each-step n xs d h = rw (add-one n, each-at n xs d) (each-more n xs d h)
+
+  pub each-none : (xs : List A) → eachOf 0 f xs ≡ xs
+  unfolding eachOf
+  each-none xs = refl
+
+  pub each-all : (n : ℕ) (xs : List A) → length xs ≤ n → eachOf n f xs ≡ map f xs
+  unfolding eachOf
+  each-all zero [] h = refl
+  each-all zero (x ∷ xs) h = let z : ⊥ = omega arith in absurd z
+  each-all (suc n) [] h = refl
+  each-all (suc n) (x ∷ xs) h = ap (λ (t : List A). f x ∷ t) (each-all n xs (omega arith))
+
+-- A search: whether some are left that pass, from the place i on.
+module _ {A : Type 0} (g : A → Bool) (xs : List A) (i : ℕ) (d : A) where
+  pub some-here : i < length xs → g (getD xs i d) ≡ true → someOf g (drop i xs) ≡ true
+  unfolding someOf
+  some-here h e = rw (drop-cons xs i d h, e)
+
+  pub some-next : i < length xs → g (getD xs i d) ≡ false → someOf g (drop i xs) ≡ someOf g (drop (i + 1) xs)
+  unfolding someOf
+  some-next h e = rw (drop-cons xs i d h, e, add-one i)
+
+  pub some-end : length xs ≤ i → someOf g (drop i xs) ≡ false
+  unfolding someOf
+  some-end h = rw (drop-of-length-le xs h)

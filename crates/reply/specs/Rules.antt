@@ -1,0 +1,75 @@
+-- What a reply is worth: its lines, its bytes, and the number that it stands for (document 01, "Client cache").
+use mathlib.Core.Bool.{Bool, _&&_}
+use mathlib.Core.List.{List, [], _∷_, _++_}
+use Prim.Native.Nat.{ℕ, _+_, _-_, _*_, min}
+use lib.Dec.{ltb, leb}
+use lib.ListN.{length, getD, take, drop, replicate}
+use Rattle.base.specs.Choice.{pick}
+use Rattle.reply.specs.declared.Reply.{Reply}
+
+-- The limits of a reply, and of a response: refusal 3.
+abbrev pub maxLines : ℕ
+maxLines = 8
+
+abbrev pub maxBytes : ℕ
+maxBytes = 64
+
+abbrev pub maxPids : ℕ
+maxPids = 6
+
+-- A reply without lines; and what a list of replies has past its end.
+abbrev pub emptyReply : Reply
+emptyReply = record { lines = 0; lengths = replicate maxLines 0; bytes = replicate maxBytes 0 }
+
+abbrev pub noReply : Reply
+noReply = record { lines = 0; lengths = []; bytes = [] }
+
+unfoldable pub sumOf : List ℕ → ℕ
+sumOf [] = 0
+sumOf (x ∷ xs) = x + sumOf xs
+
+unfoldable pub countedOf : ℕ → ℕ
+countedOf lines = min lines maxLines
+
+-- The lines' lengths, and the bytes of all of them together.
+unfoldable pub lengthsOf : Reply → List ℕ
+lengthsOf r = take (r .lines) (r .lengths)
+
+unfoldable pub totalOf : Reply → ℕ
+totalOf r = sumOf (lengthsOf r)
+
+unfoldable pub withinOf : Reply → Bool
+withinOf r = leb (r .lines) maxLines && leb (totalOf r) maxBytes
+
+-- The lines joined, and how many bytes that is. Within the limits it is all of them.
+unfoldable pub sizeOf : Reply → ℕ
+sizeOf r = min (totalOf r) maxBytes
+
+unfoldable pub joinedOf : Reply → List ℕ
+joinedOf r = take (sizeOf r) (r .bytes)
+
+-- A lent area whose start is filled with the lines joined, if they fit.
+unfoldable pub filledOf : Reply → List ℕ → List ℕ
+filledOf r area = pick (ltb (length area) (sizeOf r)) area (joinedOf r ++ drop (sizeOf r) area)
+
+-- The first line's length, 0 where there is no line, and the first line.
+unfoldable pub firstLengthOf : Reply → ℕ
+firstLengthOf r = getD (lengthsOf r) 0 0
+
+unfoldable pub firstLine : Reply → List ℕ
+firstLine r = take (firstLengthOf r) (r .bytes)
+
+-- The high byte first.
+unfoldable pub foldOf : ℕ → List ℕ → ℕ
+foldOf acc [] = acc
+foldOf acc (b ∷ bs) = foldOf (acc * 256 + b) bs
+
+-- Two bytes are skipped, the mode and the PID, and at most four are folded.
+unfoldable pub payloadOf : ℕ → ℕ
+payloadOf n = min (n - 2) 4
+
+unfoldable pub dataBytes : Reply → List ℕ
+dataBytes r = take 4 (drop 2 (firstLine r))
+
+unfoldable pub valueOf : ℕ → Reply → ℕ
+valueOf pid r = foldOf 0 (dataBytes r)
