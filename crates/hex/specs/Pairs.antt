@@ -1,0 +1,66 @@
+-- Bytes as text: history-format.md, "A PID is two hex digits. Bytes are pairs of hex digits. Input takes hex
+-- digits in either case, output is upper case", and its token COMMAND. 39 is `'`, 120 is `x`.
+use mathlib.Core.Bool.{Bool, true, false, _&&_}
+use mathlib.Core.List.{List, [], _∷_}
+use Prim.Native.Nat.{ℕ, _+_, _*_, _/_, _%_}
+use lib.Dec.{eqb, leb, ltb}
+use lib.ListN.{length, getD}
+use Rattle.ascii.specs.Chars.{hexValue, hexDigit}
+use Rattle.base.specs.Choice.{pick}
+use Rattle.base.specs.Write.{over}
+use Rattle.hex.specs.declared.Byte.{Byte}
+use Rattle.hex.specs.declared.Byte.the-variants as byte
+use Rattle.hex.specs.declared.Bytes.{Bytes}
+use Rattle.hex.specs.declared.Bytes.the-variants.{Count, Bad, Short}
+
+unfoldable pub isHex : ℕ → Bool
+isHex b = ltb (hexValue b) 16
+
+unfoldable pub pairOf : ℕ → ℕ → ℕ
+pairOf high low = hexValue high * 16 + hexValue low
+
+-- "A PID is two hex digits."
+unfoldable pub pidOf : List ℕ → Byte
+pidOf s = pick (eqb (length s) 2 && isHex (getD s 0 0) && isHex (getD s 1 0)) (byte.Value (pairOf (getD s 0 0) (getD s 1 0))) byte.Bad
+
+-- Hex digits alone, and an even number of them.
+unfoldable pub hexes : List ℕ → Bool
+hexes [] = true
+hexes (b ∷ bs) = isHex b && hexes bs
+
+unfoldable pub isPairs : List ℕ → Bool
+isPairs s = eqb (length s % 2) 0 && hexes s
+
+-- The bytes whose pairs a text holds.
+unfoldable pub pairs : List ℕ → List ℕ
+pairs [] = []
+pairs (h ∷ []) = []
+pairs (h ∷ l ∷ s) = pairOf h l ∷ pairs s
+
+-- Reading them into a lent area, of which they take the start. What is bad or finds no room leaves it as it was.
+unfoldable pub bytesOf : ℕ → List ℕ → Bytes
+bytesOf room s = pick (isPairs s) (pick (leb (length s / 2) room) (Count (length s / 2)) Short) Bad
+
+unfoldable pub readOf : List ℕ → List ℕ → List ℕ
+readOf d s = pick (isPairs s) (pick (leb (length s / 2) (length d)) (over d 0 (pairs s)) d) d
+
+-- Bytes that stand for themselves, likewise.
+unfoldable pub plainOf : ℕ → List ℕ → Bytes
+plainOf room s = pick (leb (length s) room) (Count (length s)) Short
+
+unfoldable pub copyOf : List ℕ → List ℕ → List ℕ
+copyOf d s = pick (leb (length s) (length d)) (over d 0 s) d
+
+-- COMMAND: "`'` and the bytes themselves .., or `x` and hex pairs ..; either alone is no bytes"
+unfoldable pub commandOf : ℕ → List ℕ → Bytes
+commandOf room [] = Bad
+commandOf room (b ∷ s) = pick (eqb b 39) (plainOf room s) (pick (eqb b 120) (bytesOf room s) Bad)
+
+unfoldable pub commandBytes : List ℕ → List ℕ → List ℕ
+commandBytes d [] = d
+commandBytes d (b ∷ s) = pick (eqb b 39) (copyOf d s) (pick (eqb b 120) (readOf d s) d)
+
+-- The text of bytes, "output is upper case".
+unfoldable pub hexText : List ℕ → List ℕ
+hexText [] = []
+hexText (b ∷ s) = hexDigit (b / 16) ∷ hexDigit b ∷ hexText s
