@@ -1,0 +1,195 @@
+// The connection to the dongle, and what is known of the dongle while it stands.
+use reply::RangeReply;
+use reply::Reply;
+ghost use mathlib.Core.Path.{_≡_};
+ghost use Rattle.link.specs.Rules.{startLink, noRanges, isNo, connectOf, failOf, lossOf, restedOf, reconnectOf};
+
+// The Rust's FeatureSupport.
+pub enum FeatureSupport {
+    Unknown,
+    Yes,
+    No,
+}
+
+pub struct Features {
+    // whether several PIDs may be asked together
+    pub multi: FeatureSupport,
+}
+
+// The last reconnect check that said yes, if there was one.
+pub struct Attempt {
+    pub made: bool,
+    pub time: u64,
+}
+
+pub struct Link {
+    pub connected: bool,
+    pub features: Features,
+    // the replies to the eight range queries; absent ones while nothing is known
+    pub ranges: [RangeReply; 8],
+    // which PIDs' data lengths are known
+    pub known: [bool; 256],
+    pub attempt: Attempt,
+}
+
+// What a connection that was made hands in.
+pub struct Session {
+    pub features: Features,
+    pub ranges: [RangeReply; 8],
+    pub known: [bool; 256],
+}
+
+pub enum Connecting {
+    Connected,
+    Failed,
+    Already,
+}
+
+pub struct Linked {
+    pub link: Link,
+    pub said: Connecting,
+}
+
+pub struct Checked {
+    pub link: Link,
+    pub yes: bool,
+}
+
+// How long a reconnect check waits after one that said yes (RECONNECT_DELAY), in milliseconds.
+const RECONNECT_DELAY: u64 = 1000;
+
+// Eight ranges of which nothing is known.
+fn no_ranges() -> [RangeReply; 8]
+    ensures { λ r. ⌜ r ≡ noRanges ⌝ }
+{
+    let reply = Reply {
+        lines: 0,
+        lengths: [0u8; 8],
+        bytes: [0u8; 64],
+    };
+    let absent = RangeReply {
+        present: false,
+        reply: reply,
+    };
+    [absent; 8]
+}
+
+// No connection, and none tried.
+pub fn new() -> Link
+    ensures { λ r. ⌜ r ≡ startLink ⌝ }
+{
+    let ranges = no_ranges();
+    Link {
+        connected: false,
+        features: Features {
+            multi: FeatureSupport::Unknown,
+        },
+        ranges: ranges,
+        known: [false; 256],
+        attempt: Attempt {
+            made: false,
+            time: 0,
+        },
+    }
+}
+
+// Whether asking several PIDs together was refused.
+pub fn refuses(f: Features) -> bool
+    ensures { λ r. ⌜ r ≡ isNo (f .multi) ⌝ }
+{
+    let multi = f.multi;
+    match multi {
+        FeatureSupport::No => true,
+        FeatureSupport::Yes => false,
+        FeatureSupport::Unknown => false,
+    }
+}
+
+// A connection was made.
+pub fn connect(mut l: Link, s: Session) -> Linked
+    ensures { λ r. ⌜ r ≡ connectOf l s ⌝ }
+{
+    if l.connected {
+        return Linked {
+            link: l,
+            said: Connecting::Already,
+        };
+    }
+    let features = s.features;
+    let ranges = s.ranges;
+    let known = s.known;
+    l.connected = true;
+    l.features = features;
+    l.ranges = ranges;
+    l.known = known;
+    Linked {
+        link: l,
+        said: Connecting::Connected,
+    }
+}
+
+// A connection was tried and not made.
+pub fn fail(mut l: Link) -> Linked
+    ensures { λ r. ⌜ r ≡ failOf l ⌝ }
+{
+    if l.connected {
+        return Linked {
+            link: l,
+            said: Connecting::Already,
+        };
+    }
+    let ranges = no_ranges();
+    l.ranges = ranges;
+    Linked {
+        link: l,
+        said: Connecting::Failed,
+    }
+}
+
+// The connection was lost.
+pub fn lose(mut l: Link) -> Link
+    ensures { λ r. ⌜ r ≡ lossOf l ⌝ }
+{
+    let ranges = no_ranges();
+    l.connected = false;
+    l.ranges = ranges;
+    l
+}
+
+// Whether a reconnect may be tried: the first time, or long enough after the last.
+fn rested(a: Attempt, time: u64) -> bool
+    ensures { λ r. ⌜ r ≡ restedOf a time ⌝ }
+{
+    if a.made {
+        if time < a.time {
+            return false;
+        }
+        return RECONNECT_DELAY <= time - a.time;
+    }
+    true
+}
+
+// A reconnect check. While connected it changes nothing and says no.
+pub fn reconnect(mut l: Link, time: u64) -> Checked
+    ensures { λ r. ⌜ r ≡ reconnectOf l time ⌝ }
+{
+    if l.connected {
+        return Checked {
+            link: l,
+            yes: false,
+        };
+    }
+    let attempt = l.attempt;
+    if rested(attempt, time) {
+        let made = Attempt {
+            made: true,
+            time: time,
+        };
+        l.attempt = made;
+        return Checked { link: l, yes: true };
+    }
+    Checked {
+        link: l,
+        yes: false,
+    }
+}

@@ -1,0 +1,58 @@
+-- Sizes, places and indexes: what the proofs of the functions cite.
+use mathlib.Core.List.{List}
+use mathlib.Core.Path.{_≡_}
+use Prim.Native.Nat.{ℕ, _+_, _-_, _<_, _≤_}
+use native.Mathlib.Nat.{mod-lt, mod-eq-of-lt}
+use native.Mathlib.Numerals.{add-one}
+use native.Mathlib.Omega.{arith}
+use lib.Dec.{ltb}
+use lib.ListN.{length, getD, take, drop, length-take, drop-of-length-le}
+use lib.Seq.{drop-cons, getD-take}
+use borrow.Author.Tests.{ltb-true, ltb-false, eq-eqb, ne-eqb}
+use Rattle.base.specs.Choice.{cases}
+use Rattle.pid_list.specs.Rules.{sizeOf, entries, place, wrap}
+use Rattle.pid_list.specs.declared.PidList.{PidList}
+
+pub size-le : (n : ℕ) → sizeOf n ≤ 256
+unfolding sizeOf
+size-le n = cases _ (ltb n 256) (λ e. rw e (omega (arith, ltb-true n 256 e))) (λ e. rw e (omega arith))
+
+pub size-small : (n : ℕ) → n ≤ 256 → sizeOf n ≡ n
+unfolding sizeOf
+size-small n h = cases _ (ltb n 256) (λ e. rw e) (λ e. let a = ltb-false n 256 e in rw e (omega arith))
+
+pub length-counted : (n : ℕ) (xs : List ℕ) → length xs ≡ 256 → length (take (sizeOf n) xs) ≡ sizeOf n
+length-counted n xs h = rw length-take (omega (arith, size-le n))
+
+pub size-entries : (l : PidList) → length (l .pids) ≡ 256 → length (entries l) ≡ sizeOf (l .len)
+unfolding entries
+size-entries l h = length-counted (l .len) (l .pids) h
+
+pub entry-at : (l : PidList) (i : ℕ) → i < sizeOf (l .len) → getD (entries l) i 0 ≡ getD (l .pids) i 0
+unfolding entries
+entry-at l i h = getD-take (sizeOf (l .len)) (l .pids) i 0 h
+
+pub wrap-lt : (i n : ℕ) → 0 < n → wrap i n < n
+unfolding wrap
+wrap-lt i n h = rw (ne-eqb n 0 (λ e. omega arith)) (mod-lt i h)
+
+pub wrap-small : (i n : ℕ) → i < n → wrap i n ≡ i
+unfolding wrap
+wrap-small i n h = rw (ne-eqb n 0 (λ e. omega arith), mod-eq-of-lt h)
+
+-- A search from the front: what is left of it at place i.
+abbrev pub Sought : List ℕ → ℕ → ℕ → Type 0
+Sought xs p i = place xs p ≡ i + place (drop i xs) p
+
+module _ (xs : List ℕ) (p i : ℕ) where
+  pub sought-here : i < length xs → getD xs i 0 ≡ p → Sought xs p i → i ≡ place xs p
+  unfolding place
+  sought-here h e s = let a = rw (drop-cons xs i 0, eq-eqb _ _ e) at s in omega arith
+
+  pub sought-next : i < length xs → (getD xs i 0 ≡ p → ⊥) → Sought xs p i → Sought xs p (i + 1)
+  unfolding place
+  sought-next h e s = let a = rw (drop-cons xs i 0, ne-eqb _ _ e) at s in rw (add-one i) (omega arith)
+
+  pub sought-end : length xs ≤ i → Sought xs p i → place xs p ≡ i
+  unfolding place
+  sought-end h s = let a = rw (drop-of-length-le xs h) at s in omega arith

@@ -1,0 +1,5 @@
+pub mod Rules
+pub mod Laws
+pub mod Pigeons
+pub mod Members
+pub mod Robin

@@ -1,0 +1,1 @@
+// Laws of the poller's definitions, for claims over lists of calls. There is no code here.

@@ -1,0 +1,184 @@
+// The poller's state, the Rust's PollingState, and the calls that are taken when no round is open. The steps of a
+// round are in `rounds`.
+use config::Settings;
+use link::Link;
+use pid_list::PidList;
+use plan::Plan;
+ghost use mathlib.Core.Path.{_≡_};
+ghost use Rattle.poller.specs.State.{startOf, openedRound, closedRound, noQuery, openOf, dueOf};
+
+// control messages, the connection, and a round's begin
+pub mod calls;
+
+// A query: the first `count` of `pids`, and the ECU count kept for them, 0 for none.
+pub struct Query {
+    pub pids: [u8; 6],
+    pub count: usize,
+    pub ecu: u8,
+}
+
+// Where a round is. A result is due in the three phases so named.
+pub enum Phase {
+    // no round is open
+    Closed,
+    // single: nothing asked yet
+    First,
+    FastDue,
+    // single: the fast result has come, the slow test is next
+    Test,
+    SlowDue,
+    // multi: the next chunk of the plan is next
+    Multi,
+    MultiDue,
+    // nothing more is asked
+    Over,
+}
+
+// A round: its phase, how many queries it has issued, and the query whose result is due.
+pub struct Round {
+    pub phase: Phase,
+    pub issued: u32,
+    pub due: Query,
+}
+
+pub struct Poller {
+    pub fast: PidList,
+    pub slow: PidList,
+    // last_slow_poll: the last slow poll, or the start
+    pub clock: u64,
+    // fast_requests_since_slow
+    pub requests: u32,
+    // the ECU count kept for each PID, 0 for none
+    pub counts: [u8; 256],
+    pub link: Link,
+    // what the open round's begin found
+    pub settings: Settings,
+    pub plan: Plan,
+    pub round: Round,
+}
+
+// Whether a call was taken. One made outside its condition changes nothing.
+pub enum Said {
+    Done,
+    Refused,
+}
+
+pub struct Changed {
+    pub poller: Poller,
+    pub said: Said,
+}
+
+pub enum Connecting {
+    Connected,
+    Failed,
+    Already,
+    Refused,
+}
+
+pub struct Linked {
+    pub poller: Poller,
+    pub said: Connecting,
+}
+
+pub enum Check {
+    Yes,
+    No,
+    Refused,
+}
+
+pub struct Checked {
+    pub poller: Poller,
+    pub said: Check,
+}
+
+pub struct Lists {
+    pub fast: PidList,
+    pub slow: PidList,
+}
+
+// The poller before any call.
+pub fn new(time: u64) -> Poller
+    ensures { λ r. ⌜ r ≡ startOf time ⌝ }
+{
+    let list = pid_list::empty();
+    let counts = [0u8; 256];
+    let link = link::new();
+    let settings = config::default_settings();
+    let plan = plan::make(list, list, counts, [false; 256], 6);
+    let round = closed();
+    Poller {
+        fast: list,
+        slow: list,
+        clock: time,
+        requests: 0,
+        counts: counts,
+        link: link,
+        settings: settings,
+        plan: plan,
+        round: round,
+    }
+}
+
+// The query when none is due.
+pub fn no_query() -> Query
+    ensures { λ r. ⌜ r ≡ noQuery ⌝ }
+{
+    Query {
+        pids: [0u8; 6],
+        count: 0,
+        ecu: 0,
+    }
+}
+
+// A round that has asked nothing yet.
+fn opened(phase: Phase) -> Round
+    ensures { λ r. ⌜ r ≡ openedRound phase ⌝ }
+{
+    let due = no_query();
+    Round {
+        phase: phase,
+        issued: 0,
+        due: due,
+    }
+}
+
+// The round when none is open.
+pub fn closed() -> Round
+    ensures { λ r. ⌜ r ≡ closedRound ⌝ }
+{
+    opened(Phase::Closed)
+}
+
+// Whether a round is open.
+pub fn open(r: Round) -> bool
+    ensures { λ b. ⌜ b ≡ openOf (r .phase) ⌝ }
+{
+    let phase = r.phase;
+    match phase {
+        Phase::Closed => false,
+        Phase::First => true,
+        Phase::FastDue => true,
+        Phase::Test => true,
+        Phase::SlowDue => true,
+        Phase::Multi => true,
+        Phase::MultiDue => true,
+        Phase::Over => true,
+    }
+}
+
+// Whether a result is due.
+pub fn due(r: Round) -> bool
+    ensures { λ b. ⌜ b ≡ dueOf (r .phase) ⌝ }
+{
+    let phase = r.phase;
+    match phase {
+        Phase::Closed => false,
+        Phase::First => false,
+        Phase::FastDue => true,
+        Phase::Test => false,
+        Phase::SlowDue => true,
+        Phase::Multi => false,
+        Phase::MultiDue => true,
+        Phase::Over => false,
+    }
+}

@@ -1,0 +1,93 @@
+-- Each definition of the calls, case by case: what the functions' proofs and the laws cite.
+use mathlib.Core.Bool.{true, false, _&&_}
+use mathlib.Core.List.{List, [], _∷_}
+use mathlib.Core.Path.{_≡_, refl}
+use Prim.Native.Nat.{ℕ, suc, _+_, _<_, _≤_}
+use native.Mathlib.Omega.{arith}
+use lib.Dec.{eqb}
+use lib.ListN.{length, getD, drop, drop-of-length-le}
+use lib.Seq.{drop-cons, getD-drop, drop-drop}
+use Rattle.link.specs.Rules.{isNo}
+use Rattle.pid_list.specs.Rules.{nextOf as nextPid}
+use Rattle.plan.specs.Steps.{chunkOf, takeOf}
+use Rattle.poller.specs.Calls.{done, refused}
+use Rattle.rounds.specs.Next.{moreOf, issueOf, endOf, slowDue, slowOf, firstOf, multiOf}
+use Rattle.rounds.specs.Result.{nothing, teachOf, teachAll, isLost, lessonsOf, linkAfter, roundAfter, clockAfter, resultOf}
+use Rattle.poller.specs.State.{dueOf, withFast, withSlow, withPlan}
+use Rattle.poller.specs.declared.Phase.the-variants.{FastDue, SlowDue, MultiDue}
+use Rattle.poller.specs.declared.Poller.{Poller}
+use Rattle.rounds.specs.declared.Learnt.{Learnt}
+use Rattle.rounds.specs.declared.Lessons.{Lessons}
+use Rattle.rounds.specs.declared.Outcome.{Outcome}
+
+module _ (p : Poller) where
+  module _ (t : ℕ) where
+    pub slow-not : slowDue (p .settings) t (p .clock) (p .requests) ≡ false → slowOf p t ≡ endOf p
+    unfolding slowOf
+    slow-not e = rw e
+
+    pub slow-sent : slowDue (p .settings) t (p .clock) (p .requests) ≡ true → (nextPid (p .slow) .found && p .link .connected) ≡ true
+        → slowOf p t ≡ issueOf (withSlow p (nextPid (p .slow) .list) (p .clock) 0) SlowDue (chunkOf (nextPid (p .slow) .pid ∷ []))
+    unfolding slowOf
+    slow-sent e f = rw (e, f)
+
+    pub slow-unsent : slowDue (p .settings) t (p .clock) (p .requests) ≡ true → (nextPid (p .slow) .found && p .link .connected) ≡ false
+        → slowOf p t ≡ endOf (withSlow p (nextPid (p .slow) .list) t 0)
+    unfolding slowOf
+    slow-unsent e f = rw (e, f)
+
+    pub first-some : nextPid (p .fast) .found ≡ true
+        → firstOf p t ≡ issueOf (withFast p (nextPid (p .fast) .list) (moreOf (p .requests))) FastDue (chunkOf (nextPid (p .fast) .pid ∷ []))
+    unfolding firstOf
+    first-some e = rw e
+
+    pub first-none : nextPid (p .fast) .found ≡ false → firstOf p t ≡ slowOf p t
+    unfolding firstOf
+    first-none e = rw e
+
+  pub multi-end : eqb (takeOf (p .plan) .chunk .count) 0 ≡ true → multiOf p ≡ endOf p
+  unfolding multiOf
+  multi-end e = rw e
+
+  pub multi-some : eqb (takeOf (p .plan) .chunk .count) 0 ≡ false
+      → multiOf p ≡ issueOf (withPlan p (takeOf (p .plan) .plan)) MultiDue (takeOf (p .plan) .chunk)
+  unfolding multiOf
+  multi-some e = rw e
+
+  module _ (t : ℕ) (o : Outcome) where
+    pub result-none : dueOf (p .round .phase) ≡ false → resultOf p t o ≡ refused p
+    unfolding resultOf
+    result-none e = rw e
+
+    pub result-due : dueOf (p .round .phase) ≡ true → resultOf p t o ≡ done (record {
+      fast = p .fast;
+      slow = p .slow;
+      clock = clockAfter (p .round .phase) (p .clock) t;
+      requests = p .requests;
+      counts = lessonsOf p o .counts;
+      link = linkAfter (p .link) (lessonsOf p o .known) (o .features) (isLost (o .kind));
+      settings = p .settings;
+      plan = p .plan;
+      round = roundAfter (p .round) (isNo (o .features .multi)) (isLost (o .kind));
+    })
+    unfolding resultOf
+    result-due e = rw e
+
+-- ---- the loop of `learn`, one turn and its end
+
+teach-cons : (k : Lessons) (q : ℕ) (qs : List ℕ) (ls : List Learnt) → teachAll k (q ∷ qs) ls ≡ teachAll (teachOf k q (getD ls 0 nothing)) qs (drop 1 ls)
+unfolding teachAll
+teach-cons k q qs ls = refl
+
+module _ (k : Lessons) (qs : List ℕ) (ls : List Learnt) (i : ℕ) where
+  pub teach-turn : i < length qs → teachAll k (drop i qs) (drop i ls) ≡ teachAll (teachOf k (getD qs i 0) (getD ls i nothing)) (drop (i + 1) qs) (drop (i + 1) ls)
+  teach-turn h =
+      let e : i + 0 ≡ i = omega arith in
+      let g = rw e at (getD-drop i ls 0 nothing) in
+      let d = drop-drop 1 i ls in
+      let s : suc i ≡ i + 1 = omega arith in
+      rw (drop-cons qs i 0 h, teach-cons, g, d, s)
+
+  pub teach-end : length qs ≤ i → teachAll k (drop i qs) (drop i ls) ≡ k
+  unfolding teachAll
+  teach-end h = rw (drop-of-length-le qs h)
