@@ -1,0 +1,131 @@
+-- Ask, collect and give up (document 01, "Commands (desk)" and "Client cache").
+use mathlib.Core.Bool.{Bool, false, not}
+use mathlib.Core.List.{List, [], _∷_}
+use Prim.Native.Nat.{ℕ, _-_}
+use lib.Dec.{ltb, eqb}
+use lib.ListN.{length, getD, replicate}
+use Rattle.base.specs.Choice.{pick}
+use Rattle.base.specs.Refusal.{firstOf}
+use Rattle.clients.specs.Rules.{takenOf, waitingOf}
+use Rattle.command.specs.Classify.{commandOf}
+use Rattle.command.specs.declared.Command.{Command}
+use Rattle.command.specs.declared.Command.the-variants as command
+use Rattle.desk.specs.Rules.{registered, clientOf, fresh, waitOf, stored, putClient}
+use Rattle.desk.specs.declared.Desk.{Desk}
+use Rattle.reply.specs.Rules.{maxLines, emptyReply, noReply, sizeOf, filledOf}
+use Rattle.reply.specs.declared.Reply.{Reply}
+use Rattle.reply.specs.declared.RangeReply.{RangeReply}
+use Rattle.cache.specs.declared.Step.{Step}
+use Rattle.cache.specs.declared.Step.the-variants.{Disconnected, Empty, Unclear, Stored, ToCache}
+use Rattle.cache.specs.declared.Answer.{Answer}
+use Rattle.cache.specs.declared.Answer.the-variants.{Refused, Unable, NoData, Unknown, Range, Reading, Waiting}
+use Rattle.cache.specs.declared.Asked.{Asked}
+
+-- What an answer says, in document 01's terms: the refusal's number, 0 where the call is accepted.
+abbrev pub numberIn : Answer → ℕ
+numberIn (Refused n) = n
+numberIn Unable = 0
+numberIn NoData = 0
+numberIn Unknown = 0
+numberIn Range = 0
+numberIn (Reading p) = 0
+numberIn (Waiting p) = 0
+
+-- Whether it hands out a reading of the PID, which names Consumed.
+abbrev pub handsOut : Answer → ℕ → Bool
+handsOut (Reading p) q = eqb p q
+handsOut (Refused n) q = false
+handsOut Unable q = false
+handsOut NoData q = false
+handsOut Unknown q = false
+handsOut Range q = false
+handsOut (Waiting p) q = false
+
+-- How many ranges there are, and what stands past the last.
+abbrev pub rangeCount : ℕ
+rangeCount = 8
+
+abbrev pub noRange : RangeReply
+noRange = record { present = false; reply = noReply }
+
+unfoldable pub rangeOf : List RangeReply → ℕ → RangeReply
+rangeOf rs n = pick (ltb n rangeCount) (getD rs n noRange) (record { present = false; reply = emptyReply })
+
+-- The steps, in order: no connection, or ranges not ready; a range's stored reply, absent or without lines; not understood; a PID.
+unfoldable pub rangeStep : ℕ → RangeReply → Step
+rangeStep n r = pick (r .present) (pick (eqb (r .reply .lines) 0) Empty (Stored n)) Disconnected
+
+unfoldable pub commandStep : List RangeReply → Command → Step
+commandStep rs (command.Range n) = rangeStep n (rangeOf rs n)
+commandStep rs (command.Pid p) = ToCache p
+commandStep rs command.Unknown = Unclear
+
+unfoldable pub stepOf : Bool → List RangeReply → List ℕ → Step
+stepOf connected rs cmd = pick connected (commandStep rs (commandOf cmd)) Disconnected
+
+abbrev pub refusedAsk : ℕ → Desk → Asked
+refusedAsk n d = record { desk = d; answer = Refused n; lines = 0; lengths = replicate maxLines 0 }
+
+abbrev pub toldOf : Desk → Answer → Reply → Asked
+toldOf d a r = record { desk = d; answer = a; lines = r .lines; lengths = r .lengths }
+
+-- What a call with refusal n answers, where an accepted one answers a; and what it leaves of a lent area, where an
+-- accepted one fills in a reply.
+unfoldable pub settled : ℕ → Desk → Asked → Asked
+settled n d a = pick (eqb n 0) a (refusedAsk n d)
+
+unfoldable pub filledBy : ℕ → Reply → List ℕ → List ℕ
+filledBy n out area = pick (eqb n 0) (filledOf out area) area
+
+-- An ask whose answer and reply are known already: it changes nothing.
+unfoldable pub otherRefusal : Desk → ℕ → Reply → ℕ → ℕ
+otherRefusal d c out n = firstOf ((8, not (registered d c)) ∷ (14, ltb n (sizeOf out)) ∷ [])
+
+unfoldable pub otherOf : Desk → ℕ → Answer → Reply → ℕ → Asked
+otherOf d c a out n = settled (otherRefusal d c out n) d (toldOf d a out)
+
+unfoldable pub otherArea : Desk → ℕ → Reply → List ℕ → List ℕ
+otherArea d c out area = filledBy (otherRefusal d c out (length area)) out area
+
+-- The answer to a step, the reply that goes with it, and the desk after it.
+unfoldable pub answerOf : Desk → ℕ → Step → Answer
+answerOf d c Disconnected = Unable
+answerOf d c Empty = NoData
+answerOf d c Unclear = Unknown
+answerOf d c (Stored n) = Range
+answerOf d c (ToCache p) = pick (fresh d c p) (Reading p) (Waiting p)
+
+unfoldable pub handedOf : Desk → ℕ → List RangeReply → Step → Reply
+handedOf d c rs Disconnected = emptyReply
+handedOf d c rs Empty = emptyReply
+handedOf d c rs Unclear = emptyReply
+handedOf d c rs (Stored n) = rangeOf rs n .reply
+handedOf d c rs (ToCache p) = pick (fresh d c p) (stored d p) emptyReply
+
+unfoldable pub afterAsk : Desk → ℕ → ℕ → Step → Desk
+afterAsk d t c Disconnected = d
+afterAsk d t c Empty = d
+afterAsk d t c Unclear = d
+afterAsk d t c (Stored n) = d
+afterAsk d t c (ToCache p) =
+    pick (fresh d c p) (putClient d c (takenOf p (clientOf d c))) (putClient d c (waitingOf p t (clientOf d c)))
+
+-- An ask to the cache while the client waits.
+unfoldable pub busy : Desk → ℕ → Step → Bool
+busy d c Disconnected = false
+busy d c Empty = false
+busy d c Unclear = false
+busy d c (Stored n) = false
+busy d c (ToCache p) = waitOf d c .waiting
+
+-- An ask with a lent area of n bytes.
+unfoldable pub askRefusal : Desk → ℕ → List RangeReply → Step → ℕ → ℕ
+askRefusal d c rs s n =
+    firstOf ((8, not (registered d c)) ∷ (9, busy d c s) ∷ (14, ltb n (sizeOf (handedOf d c rs s))) ∷ [])
+
+unfoldable pub askOf : Desk → ℕ → ℕ → List RangeReply → Step → ℕ → Asked
+askOf d t c rs s n =
+    settled (askRefusal d c rs s n) d (toldOf (afterAsk d t c s) (answerOf d c s) (handedOf d c rs s))
+
+unfoldable pub askArea : Desk → ℕ → List RangeReply → Step → List ℕ → List ℕ
+askArea d c rs s area = filledBy (askRefusal d c rs s (length area)) (handedOf d c rs s) area

@@ -1,0 +1,68 @@
+use native.Mathlib.Omega.{arith}
+use Prim.Native.Nat.{_≤_, _-_}
+use mathlib.Core.Path.{_≡_}
+use lib.ListN.{length}
+use Rattle.clients.specs.Rules.{places}
+use Rattle.clients.specs.Laws.{Sought, sought-here, sought-next, sought-end}
+use borrow.Author.Needs.{needs}
+use Rattle.clients.proofs.place.Statement.{statement}
+use Rattle.clients.proofs.place.Tie as tie
+
+abbrev Inv-loop : tie.InvT-loop
+Inv-loop number clients i₀ i = (i ≤ places) × Sought clients number i
+
+abbrev μ-loop : tie.MeasureT-loop
+μ-loop number clients i₀ i = places - i
+
+long : (c : tie.Start Inv-loop μ-loop) → length (c .args .t1) ≡ places
+long c = search needs
+
+loop-holds : tie.Need-loop-holds Inv-loop μ-loop
+loop-holds c = omega arith
+
+mul-client : tie.Need-mul-client Inv-loop μ-loop
+mul-client c = omega arith
+
+array-copy-out-client : tie.Need-array-copy-out-client Inv-loop μ-loop
+array-copy-out-client c = omega arith
+
+returns : tie.Need-returns Inv-loop μ-loop
+returns c =
+    let a = c .before .before .before .before in
+    let s = a .before in
+    let l = long s in
+    sought-here (s .args .t1) (s .args .number) (a .loop .i) (omega arith) (c .if1 .taken) (a .loop .inv .1)
+
+add-i : tie.Need-add-i Inv-loop μ-loop
+add-i c = omega arith
+
+loop-less : tie.Need-loop-less Inv-loop μ-loop
+loop-less c = omega arith
+
+loop-again : tie.Need-loop-again Inv-loop μ-loop
+loop-again c =
+    let a = c .before .before .before .before in
+    let s = a .before in
+    let l = long s in
+    (omega arith, sought-next (s .args .t1) (s .args .number) (a .loop .i) (omega arith) (c .if1 .left) (a .loop .inv .1))
+
+returns-2 : tie.Need-returns-2 Inv-loop μ-loop
+returns-2 c =
+    let s = c .before .before in
+    let l = long s in
+    omega (arith, sought-end (s .args .t1) (s .args .number) (c .before .loop .i) (omega arith) (c .before .loop .inv .1))
+
+pub place-spec : {M : Type 1} → statement M
+place-spec =
+    tie.close
+    (tie.spec
+    Inv-loop
+    μ-loop
+    loop-holds
+    mul-client
+    array-copy-out-client
+    returns
+    add-i
+    loop-less
+    loop-again
+    returns-2)
