@@ -1,0 +1,48 @@
+use Rattle.manager.specs.Calls.{waitingCallOf, entrySet, entryTold}
+use borrow.Author.Needs.{needs}
+use Rattle.manager.proofs.waiting.Statement.{statement}
+use Rattle.manager.proofs.waiting.Tie as tie
+
+mul-before : tie.Need-mul-before
+mul-before c = search needs
+
+element-copy-out-before : tie.Need-element-copy-out-before
+element-copy-out-before c = search needs
+
+waiting-requires : tie.Need-waiting-requires
+waiting-requires c κs = search needs
+
+mul-after : tie.Need-mul-after
+mul-after c = search needs
+
+element-set-from-after : tie.Need-element-set-from-after
+element-set-from-after c = search needs
+
+empty-requires : tie.Need-empty-requires
+empty-requires c κs = search needs
+
+told-requires : tie.Need-told-requires
+told-requires c κs = search needs
+
+finish-requires : tie.Need-finish-requires
+finish-requires c κs = search needs
+
+returns : tie.Need-returns
+unfolding waitingCallOf entrySet entryTold
+returns c =
+    let d = c .before .before .before in
+    rw (c .finish .ensures, c .before .told .ensures, c .before .before .empty .ensures, d .waiting .ensures)
+
+pub waiting-spec : {M : Type 1} → statement M
+waiting-spec =
+    tie.close
+    (tie.spec
+    mul-before
+    element-copy-out-before
+    waiting-requires
+    mul-after
+    element-set-from-after
+    empty-requires
+    told-requires
+    finish-requires
+    returns)

@@ -1,0 +1,5 @@
+pub mod Calls
+pub mod Cases
+pub mod Names
+pub mod Laws
+pub mod Reported

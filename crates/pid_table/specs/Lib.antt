@@ -1,0 +1,3 @@
+pub mod Entry
+pub mod Cases
+pub mod Laws

@@ -1,0 +1,5 @@
+pub mod Rates
+pub mod Metrics
+pub mod Report
+pub mod Order
+pub mod Sorted
