@@ -1,0 +1,102 @@
+-- The box's state: its setters, and the box that a start returns.
+use mathlib.Core.Bool.{Bool, true, false}
+use mathlib.Core.List.{List, []}
+use Prim.Native.Nat.{ℕ}
+use lib.ListN.{replicate}
+use Rattle.config.specs.Defaults.{defaultSettings}
+use Rattle.config.specs.declared.Settings.{Settings}
+use Rattle.config.specs.declared.Profile.{Profile}
+use Rattle.config.specs.declared.Profiles.{Profiles}
+use Rattle.control.specs.Outbox.{messages}
+use Rattle.control_line.specs.Ring.{emptyLine, pushAllOf}
+use Rattle.control_line.specs.declared.ControlLine.{ControlLine}
+use Rattle.desk.specs.Rules.{startDesk}
+use Rattle.desk.specs.declared.Desk.{Desk}
+use Rattle.manager.specs.Calls.{startOf}
+use Rattle.manager.specs.declared.Manager.{Manager}
+use Rattle.manager.specs.declared.Answer.{Answer as Managed}
+use Rattle.passes.specs.declared.Terms.{Terms}
+use Rattle.poller.specs.State.{noQuery}
+use Rattle.poller.specs.State.{startOf as startPoller}
+use Rattle.poller.specs.declared.Poller.{Poller}
+use Rattle.poller.specs.declared.Query.{Query}
+use Rattle.report.specs.Report.{noReport}
+use Rattle.report.specs.declared.Report.{Report}
+use Rattle.reply.specs.declared.Reply.{Reply}
+use Rattle.obd2.specs.declared.State.{State}
+use Rattle.obd2.specs.declared.Answer.{Answer}
+use Rattle.obd2.specs.declared.Details.{Details}
+use Rattle.obd2.specs.declared.Answered.{Answered}
+
+-- Setters, since antt has no record update. A part that is not set is as it was.
+abbrev pub withDesk : State → Desk → State
+withDesk s d = record { desk = d; manager = s .manager; poller = s .poller; line = s .line; profiles = s .profiles; settings = s .settings; time = s .time }
+
+abbrev pub withPoller : State → Poller → State
+withPoller s p = record { desk = s .desk; manager = s .manager; poller = p; line = s .line; profiles = s .profiles; settings = s .settings; time = s .time }
+
+abbrev pub withLine : State → ControlLine → State
+withLine s l = record { desk = s .desk; manager = s .manager; poller = s .poller; line = l; profiles = s .profiles; settings = s .settings; time = s .time }
+
+abbrev pub withProfiles : State → Profiles → State
+withProfiles s x = record { desk = s .desk; manager = s .manager; poller = s .poller; line = s .line; profiles = x; settings = s .settings; time = s .time }
+
+abbrev pub withSettings : State → Settings → State
+withSettings s x = record { desk = s .desk; manager = s .manager; poller = s .poller; line = s .line; profiles = s .profiles; settings = x; time = s .time }
+
+-- "an accepted call's time is kept"
+abbrev pub at : State → ℕ → State
+at s t = record { desk = s .desk; manager = s .manager; poller = s .poller; line = s .line; profiles = s .profiles; settings = s .settings; time = t }
+
+-- The manager as a call of it left it, and its messages behind those that wait.
+unfoldable pub managed : State → Managed → State
+managed s a = record {
+  desk = s .desk;
+  manager = a .manager;
+  poller = s .poller;
+  line = pushAllOf (s .line) (messages (a .outbox));
+  profiles = s .profiles;
+  settings = s .settings;
+  time = s .time;
+}
+
+-- What the manager goes by in a call at this time.
+abbrev pub termsOf : State → ℕ → Terms
+termsOf s t = record { profiles = s .profiles; settings = s .settings; now = t }
+
+-- Beside an answer: nothing, or a report, a reply's lines, a query.
+abbrev pub noDetails : Details
+noDetails = record { lines = 0; lengths = replicate 8 0; values = replicate 6 0; notices = replicate 6 false; query = noQuery; report = noReport }
+
+abbrev pub reporting : Report → Details
+reporting r = record { lines = 0; lengths = replicate 8 0; values = replicate 6 0; notices = replicate 6 false; query = noQuery; report = r }
+
+abbrev pub linesOf : ℕ → List ℕ → Details
+linesOf n lengths = record { lines = n; lengths = lengths; values = replicate 6 0; notices = replicate 6 false; query = noQuery; report = noReport }
+
+abbrev pub delivering : List ℕ → List Bool → Report → Details
+delivering values notices r = record { lines = 0; lengths = replicate 8 0; values = values; notices = notices; query = noQuery; report = r }
+
+abbrev pub querying : Query → Details
+querying q = record { lines = 0; lengths = replicate 8 0; values = replicate 6 0; notices = replicate 6 false; query = q; report = noReport }
+
+abbrev pub answered : State → Answer → Details → Answered
+answered s a d = record { state = s; answer = a; details = d }
+
+-- No profiles.
+abbrev pub noProfiles : Profiles
+noProfiles = record { list = replicate 16 (record { kind = 0; pid = 0; priority = 0; limited = false; threshold = 0; enabled = false }); count = 0 }
+
+-- The box started at a time with settings and profiles.
+unfoldable pub started : ℕ → Settings → Profiles → State
+started t s ps =
+    let m = startOf (record { profiles = ps; settings = s; now = t }) in
+    record {
+      desk = startDesk;
+      manager = m .manager;
+      poller = startPoller t;
+      line = pushAllOf emptyLine (messages (m .outbox));
+      profiles = ps;
+      settings = s;
+      time = t;
+    }

@@ -1,0 +1,75 @@
+// The joined box: desk, manager, control line and poller, as one state by value. ("Box" is document 01's word
+// for the whole of them, "desk" for the side that serves clients.)
+use config::Profiles;
+use config::Settings;
+use control::DongleMessage;
+use control_line::ControlLine;
+use desk::Desk;
+use manager::Manager;
+use poller::Poller;
+use poller::Query;
+use report::Report;
+
+pub struct State {
+    pub desk: Desk,
+    pub manager: Manager,
+    pub poller: Poller,
+    pub line: ControlLine,
+    pub profiles: Profiles,
+    pub settings: Settings,
+    // the last accepted time
+    pub time: u64,
+}
+
+// What a call answers. An answer that hands out bytes has them in the lent area, and the lines' lengths in
+// `Details`.
+pub enum Answer {
+    // document 01's number
+    Refused(u8),
+    Started,
+    // a new client's number
+    Client(u32),
+    Done,
+    // UNABLE TO CONNECT
+    Unable,
+    // NO DATA
+    NoData,
+    // ?
+    Unknown,
+    // a range's stored reply
+    Range,
+    // a reading of the PID; names Consumed without a wait
+    Reading(u8),
+    // a reading of the PID and the wait since the ask; names Consumed with it
+    Collected(u8, u64),
+    // names Waiting of the PID
+    Waiting(u8),
+    // no control message waits
+    Nothing,
+    Control(DongleMessage),
+    Connected,
+    Failed,
+    Already,
+    Yes,
+    No,
+    // a query, which stands in `Details`
+    Query,
+    // a round's end, and its request count
+    End(u32),
+}
+
+// What stands beside an answer: a reply's lines, the values and notices of a response, a query, a report.
+pub struct Details {
+    pub lines: u8,
+    pub lengths: [u8; 8],
+    pub values: [u32; 6],
+    pub notices: [bool; 6],
+    pub query: Query,
+    pub report: Report,
+}
+
+pub struct Answered {
+    pub state: State,
+    pub answer: Answer,
+    pub details: Details,
+}
