@@ -1,0 +1,153 @@
+-- CLAIM 1, AGREEMENT, as document 01 and the mission state it. This file holds definitions and the statement only.
+--
+-- For every start and every list of calls, refused ones included: after it, let a round then open end (any `next`
+-- and `result` calls that end it), take the waiting control messages in order, and the poller's fast list is exactly
+-- the manager's Fast PIDs, its slow list the Slow ones, no PID twice within or across them. What the manager tracks is
+-- read from the start and the accepted calls' arguments alone.
+use mathlib.Core.Bool.{Bool, true, false}
+use mathlib.Core.List.{List, [], _∷_, _++_}
+use mathlib.Core.Path.{_≡_}
+use Prim.Native.Nat.{ℕ, zero, suc, _≤_}
+use lib.ListN.{length, replicate}
+use Rattle.base.specs.Choice.{pick}
+use Rattle.config.specs.Defaults.{defaultSettings}
+use Rattle.config.specs.declared.Profiles.{Profiles}
+use Rattle.config.specs.declared.Settings.{Settings}
+use Rattle.control.specs.Speed.{Speed, Agree}
+use Rattle.control_line.specs.Ring.{waiting}
+use Rattle.delivery.specs.Rules.{pidAt, valueAt}
+use Rattle.manager.specs.Calls.{startOf as startManager, tickOf, changedOf, waitingCallOf, consumedCallOf}
+use Rattle.manager.specs.declared.Manager.{Manager}
+use Rattle.passes.specs.Laws.{speedAt}
+use Rattle.passes.specs.declared.Terms.{Terms}
+use Rattle.pid_list.specs.Rules.{entries}
+use Rattle.rounds.specs.declared.Outcome.{Outcome}
+use Rattle.reply.specs.declared.Response.{Response}
+use Rattle.triggers.specs.Rules.{switchOf}
+use Rattle.obd2.specs.Calls.{startOf}
+use Rattle.obd2.specs.History.{Call, register, leave, ask, collect, giveUp, response, profilePidsChanged, waiting as waits, consumed, tick, settings, takeControl, connect, connectFailed, reconnectCheck, begin, next, result, Calls, step, run, Event, happened, acceptedBy, accepted}
+use Rattle.obd2.specs.Refusals.{roundOpen, resultDue}
+use Rattle.obd2.specs.State.{noProfiles}
+use Rattle.obd2.specs.declared.Answer.{Answer}
+use Rattle.obd2.specs.declared.State.{State}
+
+-- What the rules make of the accepted calls: the manager, with the profiles and the settings it goes by.
+pub record Reading : Type 0 where
+  pub manager : Manager
+  pub profiles : Profiles
+  pub settings : Settings
+
+abbrev pub termsAt : Reading → ℕ → Terms
+termsAt r t = record { profiles = r .profiles; settings = r .settings; now = t }
+
+abbrev pub withManager : Reading → Manager → Reading
+withManager r m = record { manager = m; profiles = r .profiles; settings = r .settings }
+
+abbrev pub withProfiles : Reading → Profiles → Reading
+withProfiles r ps = record { manager = r .manager; profiles = ps; settings = r .settings }
+
+-- A call without an event for the manager: maintenance, if it is due.
+abbrev pub ticked : Reading → ℕ → Reading
+ticked r t = withManager r (tickOf (r .manager) (termsAt r t) .manager)
+
+-- The profiles after the values of the k PIDs of a response from place i on.
+unfoldable pub switched : ℕ → ℕ → Response → Profiles → Profiles
+switched zero i r ps = ps
+switched (suc k) i r ps = switched k (suc i) r (switchOf (pidAt r i) (valueAt r i) ps)
+
+-- An accepted call, by the rules under "PID table (manager)".
+unfoldable pub readCall : Reading → Call → Reading
+readCall r (register t) = ticked r t
+readCall r (leave t c) = ticked r t
+readCall r (ask t c cmd area) = r
+readCall r (collect t c area) = r
+readCall r (giveUp t c) = r
+readCall r (response t x) = ticked (withProfiles r (switched (x .count) 0 x (r .profiles))) t
+readCall r (profilePidsChanged t ps) = withManager (withProfiles r ps) (changedOf (r .manager) (termsAt (withProfiles r ps) t) .manager)
+readCall r (waits t p) = withManager r (waitingCallOf (r .manager) (termsAt r t) p .manager)
+readCall r (consumed t p w) = withManager r (consumedCallOf (r .manager) (termsAt r t) p w .manager)
+readCall r (tick t) = ticked r t
+readCall r (settings t st) = record { manager = r .manager; profiles = r .profiles; settings = st }
+readCall r (takeControl t) = r
+readCall r (connect t x) = r
+readCall r (connectFailed t) = r
+readCall r (reconnectCheck t) = r
+readCall r (begin t) = r
+readCall r (next t) = r
+readCall r (result t o) = r
+
+unfoldable pub read : Reading → List Event → Reading
+read r [] = r
+read r (e ∷ es) = read (pick (accepted e) (readCall r (e .call)) r) es
+
+abbrev pub readingAt : ℕ → Settings → Profiles → Reading
+readingAt t st ps = record { manager = startManager (record { profiles = ps; settings = st; now = t }) .manager; profiles = ps; settings = st }
+
+-- A refused start gives the box started at 0 with defaults and no profiles.
+abbrev pub readStart : ℕ → Settings → Profiles → Answer → Reading
+readStart t st ps a = pick (acceptedBy a) (readingAt t st ps) (readingAt 0 defaultSettings noProfiles)
+
+-- THE MANAGER'S FAST AND SLOW PIDS: the speed of q.
+abbrev pub tracked : Reading → ℕ → Speed
+tracked r q = speedAt (r .manager .table) q
+
+-- Calls that a round goes on by.
+unfoldable pub OfRound : List Call → Type 0
+OfRound [] = Unit {0}
+OfRound (next t ∷ cs) = OfRound cs
+OfRound (result t o ∷ cs) = OfRound cs
+OfRound (register t ∷ cs) = ⊥
+OfRound (leave t c ∷ cs) = ⊥
+OfRound (ask t c cmd area ∷ cs) = ⊥
+OfRound (collect t c area ∷ cs) = ⊥
+OfRound (giveUp t c ∷ cs) = ⊥
+OfRound (response t r ∷ cs) = ⊥
+OfRound (profilePidsChanged t ps ∷ cs) = ⊥
+OfRound (waits t p ∷ cs) = ⊥
+OfRound (consumed t p w ∷ cs) = ⊥
+OfRound (tick t ∷ cs) = ⊥
+OfRound (settings t st ∷ cs) = ⊥
+OfRound (takeControl t ∷ cs) = ⊥
+OfRound (connect t x ∷ cs) = ⊥
+OfRound (connectFailed t ∷ cs) = ⊥
+OfRound (reconnectCheck t ∷ cs) = ⊥
+OfRound (begin t ∷ cs) = ⊥
+
+-- The waiting control messages taken, one call each, at the box's own time.
+abbrev pub takeAll : State → State
+takeAll s = run s (replicate (length (waiting (s .line))) (takeControl (s .time)))
+
+-- A start's arguments and a list of calls, as a caller can make them.
+module _ (t : ℕ) (st : Settings) (ps : Profiles) (cs : List Call) where
+  abbrev pub boxAfter : State
+  boxAfter = run (startOf t st ps .state) cs
+
+  abbrev pub readAfter : Reading
+  readAfter = read (readStart t st ps (startOf t st ps .answer)) (happened (startOf t st ps .state) cs)
+
+-- The lists agree with the table: after the calls that end the round, the messages that wait are taken.
+abbrev pub AgreementAfter : ℕ → Settings → Profiles → List Call → List Call → Type 0
+AgreementAfter t st ps cs ds =
+    let s = takeAll (run (boxAfter t st ps cs) ds) in
+    (waiting (s .line) ≡ []) × Agree (entries (s .poller .fast)) (entries (s .poller .slow)) (tracked (readAfter t st ps cs))
+
+-- The call that is due in an open round, at the box's own time: the result of its query, or `next`.
+abbrev pub due : Outcome → State → Call
+due o s = pick (resultDue s) (result (s .time) o) (next (s .time))
+
+-- Those calls till the round is over, with these results.
+unfoldable pub ending : List Outcome → State → List Call
+ending [] s = []
+ending (o ∷ os) s = pick (roundOpen s) (due o s ∷ ending os (step s (due o s) .state)) []
+
+-- Whatever the results, at most 1,026 calls end an open round.
+pub record RoundEnds (s : State) (os : List Outcome) : Type 0 where
+  pub of-round : OfRound (ending os s)
+  pub few : length (ending os s) ≤ 1026
+  pub closed : roundOpen (run s (ending os s)) ≡ false
+
+pub record Claim : Type 0 where
+  pub agreement : (t : ℕ) (st : Settings) (ps : Profiles) (cs ds : List Call) → Calls cs → OfRound ds
+      → roundOpen (run (boxAfter t st ps cs) ds) ≡ false → AgreementAfter t st ps cs ds
+  pub rounds-end : (t : ℕ) (st : Settings) (ps : Profiles) (cs : List Call) → Calls cs → (os : List Outcome) → length os ≡ 1026
+      → RoundEnds (boxAfter t st ps cs) os

@@ -1,0 +1,9 @@
+pub mod Claim
+pub mod Agreed
+pub mod Steps
+pub mod Start
+pub mod Times
+pub mod Ends
+pub mod Takes
+pub mod Reads
+pub mod Theorem
