@@ -1,0 +1,9 @@
+pub mod Claim
+pub mod Seen
+pub mod Timely
+pub mod Others
+pub mod Desk
+pub mod Places
+pub mod Handed
+pub mod Theorem
+pub mod Witness
