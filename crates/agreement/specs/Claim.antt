@@ -1,4 +1,4 @@
--- CLAIM 1, AGREEMENT, as document 01 and the mission state it. This file holds definitions and the statement only.
+-- CLAIM 1, AGREEMENT, the first sentence of demand 3. This file holds definitions and the statement only.
 --
 -- For every start and every list of calls, refused ones included: after it, let a round then open end (any `next`
 -- and `result` calls that end it), take the waiting control messages in order, and the poller's fast list is exactly
