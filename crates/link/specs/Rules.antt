@@ -2,7 +2,7 @@
 use mathlib.Core.Bool.{Bool, true, false}
 use mathlib.Core.List.{List}
 use Prim.Native.Nat.{ℕ, _-_}
-use lib.Dec.{leb}
+use lib.Dec.{leb, eqb}
 use lib.ListN.{replicate}
 use Rattle.base.specs.Choice.{pick}
 use Rattle.reply.specs.declared.RangeReply.{RangeReply}
@@ -23,9 +23,7 @@ stateNumber Yes = 1
 stateNumber No = 2
 
 abbrev pub isNo : FeatureSupport → Bool
-isNo Unknown = false
-isNo Yes = false
-isNo No = true
+isNo x = eqb (stateNumber x) 2
 
 abbrev pub noRange : RangeReply
 noRange = record { present = false; reply = record { lines = 0; lengths = replicate 8 0; bytes = replicate 64 0 } }

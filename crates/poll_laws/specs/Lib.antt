@@ -5,4 +5,3 @@ pub mod Ratio
 pub mod Counts
 pub mod Asked
 pub mod Single
-pub mod Numbers

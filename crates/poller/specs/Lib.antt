@@ -1,3 +1,4 @@
 pub mod State
+pub mod Numbers
 pub mod Calls
 pub mod Cases

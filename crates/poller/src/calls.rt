@@ -14,6 +14,9 @@ use control::DongleMessage;
 use link::Session;
 use pid_list::PidList;
 ghost use mathlib.Core.Path.{_≡_};
+ghost use Rattle.base.specs.Choice.{pick};
+ghost use Rattle.poller.specs.Numbers.{saidNumber, connectNumber, checkNumber};
+ghost use Rattle.poller.specs.State.{openOf};
 ghost use Rattle.poller.specs.Calls.{appliedOf, applyOf, saidOf, connectOf, failOf, reconnectOf, multiAllowed, beginOf};
 
 // The two lists after a control message: the PID out of both, and at the end of its own.
@@ -44,6 +47,7 @@ fn applied(fast: PidList, slow: PidList, m: DongleMessage) -> Lists
 // A control message is applied to both lists.
 pub fn apply(mut p: Poller, m: DongleMessage) -> Changed
     ensures { λ r. ⌜ r ≡ applyOf p m ⌝ }
+    ensures { λ r. ⌜ saidNumber 12 (r .said) ≡ pick (openOf (p .round .phase)) 12 0 ⌝ }
 {
     let round = p.round;
     if super::open(round) {
@@ -79,6 +83,7 @@ fn said(c: link::Connecting) -> Connecting
 // A connection was made.
 pub fn connect(mut p: Poller, s: Session) -> Linked
     ensures { λ r. ⌜ r ≡ connectOf p s ⌝ }
+    ensures { λ r. ⌜ connectNumber (r .said) ≡ pick (openOf (p .round .phase)) 12 0 ⌝ }
 {
     let round = p.round;
     if super::open(round) {
@@ -102,6 +107,7 @@ pub fn connect(mut p: Poller, s: Session) -> Linked
 // A connection was tried and not made.
 pub fn fail(mut p: Poller) -> Linked
     ensures { λ r. ⌜ r ≡ failOf p ⌝ }
+    ensures { λ r. ⌜ connectNumber (r .said) ≡ pick (openOf (p .round .phase)) 12 0 ⌝ }
 {
     let round = p.round;
     if super::open(round) {
@@ -125,6 +131,7 @@ pub fn fail(mut p: Poller) -> Linked
 // A reconnect check.
 pub fn reconnect(mut p: Poller, time: u64) -> Checked
     ensures { λ r. ⌜ r ≡ reconnectOf p time ⌝ }
+    ensures { λ r. ⌜ checkNumber (r .said) ≡ pick (openOf (p .round .phase)) 12 0 ⌝ }
 {
     let round = p.round;
     if super::open(round) {
@@ -162,6 +169,7 @@ fn multi_allowed(switch: bool, denied: bool) -> bool
 // A round is opened with the settings of now. Without a connection it has nothing to ask.
 pub fn begin(mut p: Poller, settings: Settings) -> Changed
     ensures { λ r. ⌜ r ≡ beginOf p settings ⌝ }
+    ensures { λ r. ⌜ saidNumber 12 (r .said) ≡ pick (openOf (p .round .phase)) 12 0 ⌝ }
 {
     let round = p.round;
     if super::open(round) {

@@ -1,3 +1,4 @@
+pub mod Numbers
 pub mod Next
 pub mod Result
 pub mod Cases

@@ -10,8 +10,8 @@ use Rattle.link.specs.declared.Features.{Features}
 use Rattle.link.specs.declared.Link.{Link}
 use Rattle.poller.specs.Calls.{done, refused}
 use Rattle.poller.specs.State.{dueOf, noQuery, pidsOf}
+use Rattle.rounds.specs.Numbers.{kindNumber}
 use Rattle.rounds.specs.declared.Kind.{Kind}
-use Rattle.rounds.specs.declared.Kind.the-variants.{Replied, TimedOut, Lost}
 use Rattle.poller.specs.declared.Phase.{Phase}
 use Rattle.poller.specs.declared.Phase.the-variants.{Closed, First, FastDue, Test, SlowDue, Multi, MultiDue, Over}
 use Rattle.poller.specs.declared.Changed.{Changed}
@@ -23,9 +23,7 @@ use Rattle.poller.specs.declared.Query.{Query}
 use Rattle.poller.specs.declared.Round.{Round}
 
 abbrev pub isLost : Kind → Bool
-isLost Replied = false
-isLost TimedOut = false
-isLost Lost = true
+isLost k = eqb (kindNumber k) 2
 
 -- The first ECU count is kept for good.
 unfoldable pub keepOf : List ℕ → ℕ → ℕ → List ℕ

@@ -7,11 +7,14 @@ use poller::Phase;
 use poller::Poller;
 use poller::Query;
 use poller::Round;
-ghost use mathlib.Core.Bool.{_&&_};
+ghost use mathlib.Core.Bool.{not, _&&_};
 ghost use mathlib.Core.List.{[], _∷_};
 ghost use mathlib.Core.Path.{_≡_};
 ghost use Prim.Native.Nat.{_-_};
+ghost use Rattle.base.specs.Choice.{pick};
 ghost use Rattle.plan.specs.Steps.{chunkOf};
+ghost use Rattle.poller.specs.State.{openOf, dueOf};
+ghost use Rattle.rounds.specs.Numbers.{stepNumber, stepValues, valuesFrom};
 ghost use Rattle.rounds.specs.Next.{moreOf, slowDue, issueOf, endOf, slowOf, firstOf, multiOf, nextOf};
 
 // One more, up to the largest number there is.
@@ -149,6 +152,8 @@ fn multi(mut p: Poller) -> Stepped
 // The next step of an open round.
 pub fn next(p: Poller, time: u64) -> Stepped
     ensures { λ r. ⌜ r ≡ nextOf p time ⌝ }
+    ensures { λ r. ⌜ stepNumber (r .step) ≡ pick (openOf (p .round .phase) && not (dueOf (p .round .phase))) 0 13 ⌝ }
+    ensures { λ r. ⌜ stepValues (r .step) (r .poller .round .due) ≡ valuesFrom (p .counts) (p .round .issued) (r .step) (r .poller .round .due) ⌝ }
 {
     let round = p.round;
     let phase = round.phase;

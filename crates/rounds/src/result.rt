@@ -12,6 +12,9 @@ use poller::Query;
 use poller::Round;
 use poller::Said;
 ghost use mathlib.Core.Path.{_≡_};
+ghost use Rattle.base.specs.Choice.{pick};
+ghost use Rattle.poller.specs.Numbers.{saidNumber};
+ghost use Rattle.poller.specs.State.{dueOf};
 ghost use Rattle.rounds.specs.Result.{isLost, teachOf, learnOf, endsMulti, phaseAfter, roundAfter, clockAfter, linkAfter, resultOf};
 
 // Whether the connection was lost.
@@ -133,6 +136,7 @@ fn clock_after(phase: Phase, clock: u64, time: u64) -> u64
 // The result of the query that is due.
 pub fn result(mut p: Poller, time: u64, o: Outcome) -> Changed
     ensures { λ r. ⌜ r ≡ resultOf p time o ⌝ }
+    ensures { λ r. ⌜ saidNumber 13 (r .said) ≡ pick (dueOf (p .round .phase)) 0 13 ⌝ }
 {
     let round = p.round;
     if !poller::due(round) {

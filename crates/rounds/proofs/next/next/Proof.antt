@@ -1,4 +1,5 @@
 use mathlib.Core.Path.{sym, ap, _∙_}
+use Rattle.rounds.specs.Cases.{next-all}
 use Rattle.rounds.specs.Next.{stepIn, nextOf}
 use Rattle.poller.specs.declared.Phase.{Phase}
 use borrow.Author.Needs.{needs}
@@ -43,35 +44,51 @@ enum-told-8 c = search needs
 
 returns : tie.Need-returns
 unfolding nextOf
-returns c = c .first .ensures ∙ sym (ap (λ (x : Phase). stepIn x (c .before .before .before .before .args .p) (c .before .before .before .before .args .time)) (c .before .enum-told .given .1))
+returns c =
+    let a = c .before .before .before .before .args in
+    next-all (a .p) (a .time) (c .first .ensures ∙ sym (ap (λ (x : Phase). stepIn x (a .p) (a .time)) (c .before .enum-told .given .1)))
 
 returns-2 : tie.Need-returns-2
 unfolding nextOf
-returns-2 c = c .slow .ensures ∙ sym (ap (λ (x : Phase). stepIn x (c .before .before .before .before .args .p) (c .before .before .before .before .args .time)) (c .before .enum-told2 .given .1))
+returns-2 c =
+    let a = c .before .before .before .before .args in
+    next-all (a .p) (a .time) (c .slow .ensures ∙ sym (ap (λ (x : Phase). stepIn x (a .p) (a .time)) (c .before .enum-told2 .given .1)))
 
 returns-3 : tie.Need-returns-3
 unfolding nextOf
-returns-3 c = c .multi .ensures ∙ sym (ap (λ (x : Phase). stepIn x (c .before .before .before .before .args .p) (c .before .before .before .before .args .time)) (c .before .enum-told3 .given .1))
+returns-3 c =
+    let a = c .before .before .before .before .args in
+    next-all (a .p) (a .time) (c .multi .ensures ∙ sym (ap (λ (x : Phase). stepIn x (a .p) (a .time)) (c .before .enum-told3 .given .1)))
 
 returns-4 : tie.Need-returns-4
 unfolding nextOf
-returns-4 c = c .end .ensures ∙ sym (ap (λ (x : Phase). stepIn x (c .before .before .before .before .args .p) (c .before .before .before .before .args .time)) (c .before .enum-told4 .given .1))
+returns-4 c =
+    let a = c .before .before .before .before .args in
+    next-all (a .p) (a .time) (c .end .ensures ∙ sym (ap (λ (x : Phase). stepIn x (a .p) (a .time)) (c .before .enum-told4 .given .1)))
 
 returns-5 : tie.Need-returns-5
 unfolding nextOf
-returns-5 c = sym (ap (λ (x : Phase). stepIn x (c .before .before .before .args .p) (c .before .before .before .args .time)) (c .enum-told5 .given .1))
+returns-5 c =
+    let a = c .before .before .before .args in
+    next-all (a .p) (a .time) (sym (ap (λ (x : Phase). stepIn x (a .p) (a .time)) (c .enum-told5 .given .1)))
 
 returns-6 : tie.Need-returns-6
 unfolding nextOf
-returns-6 c = sym (ap (λ (x : Phase). stepIn x (c .before .before .before .args .p) (c .before .before .before .args .time)) (c .enum-told6 .given .1))
+returns-6 c =
+    let a = c .before .before .before .args in
+    next-all (a .p) (a .time) (sym (ap (λ (x : Phase). stepIn x (a .p) (a .time)) (c .enum-told6 .given .1)))
 
 returns-7 : tie.Need-returns-7
 unfolding nextOf
-returns-7 c = sym (ap (λ (x : Phase). stepIn x (c .before .before .before .args .p) (c .before .before .before .args .time)) (c .enum-told7 .given .1))
+returns-7 c =
+    let a = c .before .before .before .args in
+    next-all (a .p) (a .time) (sym (ap (λ (x : Phase). stepIn x (a .p) (a .time)) (c .enum-told7 .given .1)))
 
 returns-8 : tie.Need-returns-8
 unfolding nextOf
-returns-8 c = sym (ap (λ (x : Phase). stepIn x (c .before .before .before .args .p) (c .before .before .before .args .time)) (c .enum-told8 .given .1))
+returns-8 c =
+    let a = c .before .before .before .args in
+    next-all (a .p) (a .time) (sym (ap (λ (x : Phase). stepIn x (a .p) (a .time)) (c .enum-told8 .given .1)))
 
 pub next-spec : {M : Type 1} → statement M
 next-spec =
