@@ -32,7 +32,7 @@ plain-within room s =
     (λ f. rw f (leb-true (length s) room f))
     (λ f. rw f tt)
 
-command-within : (room : ℕ) (s : List ℕ) → Within room (commandOf room s)
+pub command-within : (room : ℕ) (s : List ℕ) → Within room (commandOf room s)
 unfolding commandOf
 command-within room [] = tt
 command-within room (b ∷ s) =

@@ -37,7 +37,8 @@ pub fn pid(s: &[u8]) -> Byte
     Byte::Bad
 }
 
-fn is_pairs(s: &[u8]) -> bool
+// Whether s is hex digits alone, an even number of them.
+pub fn is_pairs(s: &[u8]) -> bool
     ensures { λ r. ⌜ r ≡ isPairs (now (s .entry)) ⌝ }
 {
     if s.len() % 2 != 0 {

@@ -85,3 +85,16 @@ number-most max s = cases _ (eqb (length s) 0) (λ e. rw e tt) (λ e. rw e (from
 
 pub value-most : (max : ℕ) (s : List ℕ) (n : Number) (v : ℕ) → n ≡ numberOf max s → n ≡ Value v → v ≤ max
 value-most max s n v e f = rw (sym e ∙ f) at (number-most max s)
+
+-- A number's text has at most 20 digits.
+onto-short : (places n : ℕ) (t : List ℕ) → length (digitsOnto places n t) ≤ places + length t
+unfolding digitsOnto
+onto-short zero n t = omega arith
+onto-short (suc places) n t =
+    cases _ (ltb n 10)
+    (λ e. rw e (omega arith))
+    (λ e. rw e (omega (arith, onto-short places (n / 10) ((48 + n % 10) ∷ t))))
+
+pub text-short : (n : ℕ) → length (decimalText n) ≤ 20
+unfolding decimalText
+text-short n = onto-short 20 n []

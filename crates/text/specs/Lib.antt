@@ -1,2 +1,4 @@
 pub mod Cut
 pub mod Put
+pub mod Tokens
+pub mod Joined
