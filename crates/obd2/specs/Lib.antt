@@ -3,3 +3,4 @@ pub mod Refusals
 pub mod Calls
 pub mod History
 pub mod Accepted
+pub mod Answers

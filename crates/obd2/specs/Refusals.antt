@@ -30,8 +30,11 @@ abbrev pub Rows : Type 0
 Rows = List (ℕ × Bool)
 
 -- 1: "time below the last accepted one, or above 16,777,215,999"
+abbrev pub badTimeAfter : ℕ → ℕ → Bool
+badTimeAfter last t = ltb t last || ltb 16777215999 t
+
 unfoldable pub badTime : State → ℕ → Bool
-badTime s t = ltb t (s .time) || ltb 16777215999 t
+badTime s t = badTimeAfter (s .time) t
 
 -- 12 and 13: a round is open; a result is due.
 abbrev pub roundOpen : State → Bool
@@ -41,8 +44,11 @@ abbrev pub resultDue : State → Bool
 resultDue s = dueOf (s .poller .round .phase)
 
 -- 15: "the call's control messages exceed the free places"
+abbrev pub exceeds : ℕ → ℕ → Bool
+exceeds waiting sent = ltb (freeOf waiting) sent
+
 unfoldable pub crowded : State → Managed → Bool
-crowded s a = ltb (freeOf (s .line .count)) (a .outbox .count)
+crowded s a = exceeds (s .line .count) (a .outbox .count)
 
 -- What an ask comes to, with the connection as it is.
 abbrev pub askStep : State → List ℕ → Step

@@ -10,6 +10,11 @@ use poller::Poller;
 use poller::Query;
 use report::Report;
 
+// what the calls of all three sides share: times that are refused, room on the line, answers put together
+pub mod answers;
+// a call as a value
+pub mod call;
+
 pub struct State {
     pub desk: Desk,
     pub manager: Manager,

@@ -1,0 +1,12 @@
+use borrow.Author.Needs.{needs}
+use Rattle.obd2.proofs.answers.reporting.Statement.{statement}
+use Rattle.obd2.proofs.answers.reporting.Tie as tie
+
+no-query-requires : tie.Need-no-query-requires
+no-query-requires c κs = search needs
+
+returns : tie.Need-returns
+returns c = rw (c .no-query .ensures)
+
+pub reporting-spec : {M : Type 1} → statement M
+reporting-spec = tie.close (tie.spec no-query-requires returns)
