@@ -1,0 +1,151 @@
+// The calls that bring a list: what stands behind their time. What is brought takes the place of what the call
+// of that name brought before; a bad line leaves it as it was.
+use super::Line;
+use super::Parsed;
+use super::lists;
+use super::plain;
+use super::rest;
+use history_tokens::numbers;
+use history_tokens::numbers::FlagToken;
+use history_tokens::session;
+use history_tokens::session::KindToken;
+use history_tokens::session::StateToken;
+use history_tokens::wishes;
+use history_tokens::wishes::SettingsToken;
+use link::Features;
+use link::Session;
+use obd2::call::Brought;
+use obd2::call::Call;
+use rounds::Outcome;
+
+fn bad(brought: Brought) -> Parsed {
+    Parsed {
+        brought,
+        line: Line::Bad,
+    }
+}
+
+fn call(brought: Brought, time: u64, call: Call) -> Parsed {
+    Parsed {
+        brought,
+        line: Line::Call {
+            time,
+            call,
+            cmd: 0,
+            area: 0,
+        },
+    }
+}
+
+// SETTINGS PROFILE..
+pub fn start(mut brought: Brought, time: u64, rest: &[u8]) -> Parsed {
+    let SettingsToken::Value(settings) = wishes::settings(rest::first(rest)) else {
+        return bad(brought);
+    };
+    let read = lists::profiles(rest::behind(rest));
+    if !read.good {
+        return bad(brought);
+    }
+    let profiles = read.profiles;
+    brought.profiles = profiles;
+    Parsed {
+        brought,
+        line: Line::Start { time, settings },
+    }
+}
+
+// PROFILE..
+pub fn profiles(mut brought: Brought, time: u64, rest: &[u8]) -> Parsed {
+    let read = lists::profiles(rest);
+    if !read.good {
+        return bad(brought);
+    }
+    let profiles = read.profiles;
+    brought.profiles = profiles;
+    call(brought, time, Call::ProfilePidsChanged)
+}
+
+// REPLY..
+pub fn response(mut brought: Brought, time: u64, rest: &[u8]) -> Parsed {
+    let read = lists::response(rest);
+    if !read.good {
+        return bad(brought);
+    }
+    let response = read.response;
+    brought.response = response;
+    call(brought, time, Call::Response)
+}
+
+// 0, or 1 KNOWN STATE and eight RANGEs
+pub fn connect(brought: Brought, time: u64, rest: &[u8]) -> Parsed {
+    let FlagToken::Value(made) = numbers::flag(rest::first(rest)) else {
+        return bad(brought);
+    };
+    let behind = rest::behind(rest);
+    if made {
+        return connected(brought, time, behind);
+    }
+    Parsed {
+        brought,
+        line: plain::alone(time, Call::ConnectFailed, behind),
+    }
+}
+
+// KNOWN STATE and eight RANGEs
+fn connected(mut brought: Brought, time: u64, rest: &[u8]) -> Parsed {
+    let second = rest::behind(rest);
+    let token = session::known(rest::first(rest));
+    if !token.good {
+        return bad(brought);
+    }
+    let StateToken::Value(multi) = session::state(rest::first(second)) else {
+        return bad(brought);
+    };
+    let read = lists::ranges(rest::behind(second));
+    if !read.good {
+        return bad(brought);
+    }
+    let known = token.known;
+    let ranges = read.ranges;
+    let session = Session {
+        features: Features { multi },
+        ranges,
+        known,
+    };
+    brought.session = session;
+    call(brought, time, Call::Connect)
+}
+
+// Whether a result teaches of as many PIDs as it has to. Where none is due, the box refuses it.
+fn is_of(due: bool, asked: usize, count: usize) -> bool {
+    if due {
+        return count == asked;
+    }
+    true
+}
+
+// KIND STATE LEARNT..
+pub fn result(mut brought: Brought, time: u64, rest: &[u8], due: bool, asked: usize) -> Parsed {
+    let second = rest::behind(rest);
+    let KindToken::Value(kind) = session::kind(rest::first(rest)) else {
+        return bad(brought);
+    };
+    let StateToken::Value(multi) = session::state(rest::first(second)) else {
+        return bad(brought);
+    };
+    let read = lists::learnt(rest::behind(second));
+    if !read.good {
+        return bad(brought);
+    }
+    if !is_of(due, asked, read.count) {
+        return bad(brought);
+    }
+    let learnt = read.learnt;
+    let outcome = Outcome {
+        kind,
+        features: Features { multi },
+        learnt,
+    };
+    brought.outcome = outcome;
+    call(brought, time, Call::Result)
+}

@@ -1,0 +1,122 @@
+// The calls that bring no list: what stands behind their time.
+use super::Line;
+use super::rest;
+use hex::Byte;
+use hex::Bytes;
+use history_tokens::numbers;
+use history_tokens::numbers::WaitToken;
+use history_tokens::numbers::Word32;
+use history_tokens::wishes;
+use history_tokens::wishes::SettingsToken;
+use numeral::Number;
+use obd2::call::Call;
+
+// The largest area that a call lends.
+const LARGEST: u64 = 4096;
+
+// A call behind which nothing more may stand.
+pub fn alone(time: u64, call: Call, rest: &[u8]) -> Line {
+    if rest.len() != 0 {
+        return Line::Bad;
+    }
+    Line::Call {
+        time,
+        call,
+        cmd: 0,
+        area: 0,
+    }
+}
+
+// CLIENT
+pub fn leave(time: u64, rest: &[u8]) -> Line {
+    match numbers::number32(rest::first(rest)) {
+        Word32::Value(client) => alone(time, Call::Leave(client), rest::behind(rest)),
+        Word32::Bad => Line::Bad,
+    }
+}
+
+// CLIENT
+pub fn give_up(time: u64, rest: &[u8]) -> Line {
+    match numbers::number32(rest::first(rest)) {
+        Word32::Value(client) => alone(time, Call::GiveUp(client), rest::behind(rest)),
+        Word32::Bad => Line::Bad,
+    }
+}
+
+// CLIENT COMMAND AREA. The command's bytes are put down last, where nothing else is bad.
+pub fn ask(time: u64, rest: &[u8], bytes: &mut [u8]) -> Line {
+    let second = rest::behind(rest);
+    let third = rest::behind(second);
+    let Word32::Value(client) = numbers::number32(rest::first(rest)) else {
+        return Line::Bad;
+    };
+    let Number::Value(area) = numeral::read(rest::first(third), LARGEST) else {
+        return Line::Bad;
+    };
+    let after = rest::behind(third);
+    if after.len() != 0 {
+        return Line::Bad;
+    }
+    let Bytes::Count(cmd) = hex::command(rest::first(second), bytes) else {
+        return Line::Bad;
+    };
+    Line::Call {
+        time,
+        call: Call::Ask(client),
+        cmd,
+        area: area as usize,
+    }
+}
+
+// CLIENT AREA
+pub fn collect(time: u64, rest: &[u8]) -> Line {
+    let second = rest::behind(rest);
+    let Word32::Value(client) = numbers::number32(rest::first(rest)) else {
+        return Line::Bad;
+    };
+    let Number::Value(area) = numeral::read(rest::first(second), LARGEST) else {
+        return Line::Bad;
+    };
+    let after = rest::behind(second);
+    if after.len() != 0 {
+        return Line::Bad;
+    }
+    Line::Call {
+        time,
+        call: Call::Collect(client),
+        cmd: 0,
+        area: area as usize,
+    }
+}
+
+// PID
+pub fn waiting(time: u64, rest: &[u8]) -> Line {
+    match hex::pid(rest::first(rest)) {
+        Byte::Value(pid) => alone(time, Call::Waiting(pid), rest::behind(rest)),
+        Byte::Bad => Line::Bad,
+    }
+}
+
+// PID WAIT
+pub fn consumed(time: u64, rest: &[u8]) -> Line {
+    let second = rest::behind(rest);
+    let Byte::Value(pid) = hex::pid(rest::first(rest)) else {
+        return Line::Bad;
+    };
+    let WaitToken::Value(wait) = numbers::wait(rest::first(second)) else {
+        return Line::Bad;
+    };
+    alone(time, Call::Consumed(pid, wait), rest::behind(second))
+}
+
+// SETTINGS
+pub fn set_settings(time: u64, rest: &[u8]) -> Line {
+    match wishes::settings(rest::first(rest)) {
+        SettingsToken::Value(settings) => alone(
+            time,
+            Call::SetSettings(settings),
+            rest::behind(rest),
+        ),
+        SettingsToken::Bad => Line::Bad,
+    }
+}

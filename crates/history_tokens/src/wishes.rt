@@ -1,0 +1,164 @@
+// SETTINGS and PROFILE: fields parted by commas.
+use super::numbers;
+use super::numbers::FlagToken;
+use super::numbers::ThresholdToken;
+use super::numbers::Word32;
+use config::Profile;
+use config::Settings;
+use hex::Byte;
+use numeral::Number;
+
+pub enum SettingsToken {
+    Value(Settings),
+    Bad,
+}
+
+pub enum ProfileToken {
+    Value(Profile),
+    Bad,
+}
+
+// The first four fields of SETTINGS.
+enum PollingFields {
+    Value {
+        mode: u8,
+        interval: u64,
+        ratio: u32,
+        promotion: u64,
+    },
+    Bad,
+}
+
+// The other four.
+enum KeepingFields {
+    Value {
+        demotion: u64,
+        removal: u64,
+        multi: bool,
+        maxpids: u8,
+    },
+    Bad,
+}
+
+fn polling(s: &[u8]) -> PollingFields {
+    let second = text::tail(s, b',');
+    let third = text::tail(second, b',');
+    let fourth = text::tail(third, b',');
+    let Byte::Value(mode) = numbers::byte(text::head(s, b',')) else {
+        return PollingFields::Bad;
+    };
+    let Number::Value(interval) = numeral::read(text::head(second, b','), u64::MAX) else {
+        return PollingFields::Bad;
+    };
+    let Word32::Value(ratio) = numbers::number32(text::head(third, b',')) else {
+        return PollingFields::Bad;
+    };
+    let Number::Value(promotion) = numeral::read(text::head(fourth, b','), u64::MAX) else {
+        return PollingFields::Bad;
+    };
+    PollingFields::Value {
+        mode,
+        interval,
+        ratio,
+        promotion,
+    }
+}
+
+fn keeping(s: &[u8]) -> KeepingFields {
+    let second = text::tail(s, b',');
+    let third = text::tail(second, b',');
+    let fourth = text::tail(third, b',');
+    let Number::Value(demotion) = numeral::read(text::head(s, b','), u64::MAX) else {
+        return KeepingFields::Bad;
+    };
+    let Number::Value(removal) = numeral::read(text::head(second, b','), u64::MAX) else {
+        return KeepingFields::Bad;
+    };
+    let FlagToken::Value(multi) = numbers::flag(text::head(third, b',')) else {
+        return KeepingFields::Bad;
+    };
+    let Byte::Value(maxpids) = numbers::byte(text::head(fourth, b',')) else {
+        return KeepingFields::Bad;
+    };
+    KeepingFields::Value {
+        demotion,
+        removal,
+        multi,
+        maxpids,
+    }
+}
+
+// What stands behind the fourth comma.
+fn behind_four(s: &[u8]) -> &[u8] {
+    let second = text::tail(s, b',');
+    let third = text::tail(second, b',');
+    let fourth = text::tail(third, b',');
+    text::tail(fourth, b',')
+}
+
+pub fn settings(s: &[u8]) -> SettingsToken {
+    if text::count(s, b',') != 7 {
+        return SettingsToken::Bad;
+    }
+    let PollingFields::Value {
+        mode,
+        interval,
+        ratio,
+        promotion,
+    } = polling(s)
+    else {
+        return SettingsToken::Bad;
+    };
+    let KeepingFields::Value {
+        demotion,
+        removal,
+        multi,
+        maxpids,
+    } = keeping(behind_four(s))
+    else {
+        return SettingsToken::Bad;
+    };
+    SettingsToken::Value(Settings {
+        mode,
+        interval,
+        ratio,
+        promotion,
+        demotion,
+        removal,
+        multi,
+        maxpids,
+    })
+}
+
+pub fn profile(s: &[u8]) -> ProfileToken {
+    if text::count(s, b',') != 4 {
+        return ProfileToken::Bad;
+    }
+    let second = text::tail(s, b',');
+    let third = text::tail(second, b',');
+    let fourth = text::tail(third, b',');
+    let Byte::Value(kind) = numbers::byte(text::head(s, b',')) else {
+        return ProfileToken::Bad;
+    };
+    let Byte::Value(pid) = hex::pid(text::head(second, b',')) else {
+        return ProfileToken::Bad;
+    };
+    let Byte::Value(priority) = numbers::byte(text::head(third, b',')) else {
+        return ProfileToken::Bad;
+    };
+    let ThresholdToken::Value { limited, threshold } = numbers::threshold(text::head(fourth, b','))
+    else {
+        return ProfileToken::Bad;
+    };
+    let FlagToken::Value(enabled) = numbers::flag(text::tail(fourth, b',')) else {
+        return ProfileToken::Bad;
+    };
+    ProfileToken::Value(Profile {
+        kind,
+        pid,
+        priority,
+        limited,
+        threshold,
+        enabled,
+    })
+}

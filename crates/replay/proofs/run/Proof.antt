@@ -1,0 +1,125 @@
+-- `replay::run` is safe and ends. The measure is the number of turns that are left.
+use lib.ListN.{length}
+use mathlib.Core.Path.{_≡_, refl, _∙_}
+use native.Mathlib.Omega.{arith}
+use Rattle.replay.proofs.run.Statement.{statement}
+use Rattle.replay.proofs.run.Tie as tie
+
+abbrev Inv-loop : tie.InvT-loop
+Inv-loop line₀ bytes₀ area₀ out₀ playing₀ reading₀ turns₀ t9 line bytes area out playing reading turns =
+    (length line ≡ length line₀) × (length bytes ≡ length bytes₀) × (length area ≡ length area₀) × (length out ≡ length out₀)
+
+abbrev μ-loop : tie.MeasureT-loop
+μ-loop line₀ bytes₀ area₀ out₀ playing₀ reading₀ turns₀ t9 line bytes area out playing reading turns =
+    turns
+
+first-requires : tie.Need-first-requires Inv-loop μ-loop
+first-requires c κs = tt
+
+start-requires : tie.Need-start-requires Inv-loop μ-loop
+start-requires c κs = tt
+
+loop-holds : tie.Need-loop-holds Inv-loop μ-loop
+loop-holds c = omega arith
+
+read-part-requires : tie.Need-read-part-requires Inv-loop μ-loop
+read-part-requires c κs = tt
+
+slice-aggregate-answer-part : tie.Need-slice-aggregate-answer-part Inv-loop μ-loop
+slice-aggregate-answer-part c = refl
+
+answer-part-requires : tie.Need-answer-part-requires Inv-loop μ-loop
+answer-part-requires c κs = tt
+
+same-length : tie.Need-same-length Inv-loop μ-loop
+same-length c =
+    let p = c .before .before .before .before .before .before .before .before in
+    let r = p .before .before .before .before .before .before .before .before .before .before .before .before .before .before .before .before .before .before in
+    let i = r .before .before .before .before .before .before .loop .inv .0 in
+    let a = p .answer-part .kept .1 .1 .1 .0 in
+    let b = r .read-part .kept .1 .1 .0 in
+    omega arith
+
+same-length-2 : tie.Need-same-length-2 Inv-loop μ-loop
+same-length-2 c =
+    let p = c .before .before .before .before .before .before .before .before in
+    let r = p .before .before .before .before .before .before .before .before .before .before .before .before .before .before .before .before .before .before in
+    let i = r .before .before .before .before .before .before .loop .inv .1 in
+    let a = p .answer-part .kept .1 .1 .1 .1 .0 in
+    let b = r .read-part .kept .1 .1 .1 .0 in
+    omega arith
+
+same-length-3 : tie.Need-same-length-3 Inv-loop μ-loop
+same-length-3 c =
+    let p = c .before .before .before .before .before .before .before .before in
+    let r = p .before .before .before .before .before .before .before .before .before .before .before .before .before .before .before .before .before .before in
+    let i = r .before .before .before .before .before .before .loop .inv .2 in
+    let a = p .answer-part .kept .1 .1 .1 .1 .1 .0 in
+    let b = r .read-part .kept .1 .1 .1 .1 .0 in
+    omega arith
+
+same-length-4 : tie.Need-same-length-4 Inv-loop μ-loop
+same-length-4 c =
+    let p = c .before .before .before .before .before .before .before .before in
+    let r = p .before .before .before .before .before .before .before .before .before .before .before .before .before .before .before .before .before .before in
+    let i = r .before .before .before .before .before .before .loop .inv .3 in
+    let a = p .answer-part .kept .1 .1 .1 .1 .1 .1 .0 in
+    let b = r .read-part .kept .1 .1 .1 .1 .1 .0 in
+    omega arith
+
+returns : tie.Need-returns Inv-loop μ-loop
+returns c = tt
+
+sub-turns : tie.Need-sub-turns Inv-loop μ-loop
+sub-turns c = let n = c .before .before .before .before .before .before .before .before .before .before .before .before .before .before .before .before .before .loop-test .taken in omega arith
+
+loop-less : tie.Need-loop-less Inv-loop μ-loop
+loop-less c = let n = c .before .before .before .before .before .before .before .before .before .before .before .before .before .before .before .before .before .loop-test .taken in omega arith
+
+loop-again : tie.Need-loop-again Inv-loop μ-loop
+loop-again c =
+    let r = c .before .before .before .before .before .before .before .before .before .before .before .before in
+    let i = r .before .before .before .before .before .before .loop .inv in
+    let k = r .read-part .kept in
+    (k .1 .1 .0 ∙ i .0, k .1 .1 .1 .0 ∙ i .1, k .1 .1 .1 .1 .0 ∙ i .2, k .1 .1 .1 .1 .1 .0 ∙ i .3)
+
+same-length-5 : tie.Need-same-length-5 Inv-loop μ-loop
+same-length-5 c = omega arith
+
+same-length-6 : tie.Need-same-length-6 Inv-loop μ-loop
+same-length-6 c = omega arith
+
+same-length-7 : tie.Need-same-length-7 Inv-loop μ-loop
+same-length-7 c = omega arith
+
+same-length-8 : tie.Need-same-length-8 Inv-loop μ-loop
+same-length-8 c = omega arith
+
+returns-2 : tie.Need-returns-2 Inv-loop μ-loop
+returns-2 c = tt
+
+pub run-spec : {M : Type 1} → statement M
+run-spec =
+    tie.close
+    (tie.spec
+    Inv-loop
+    μ-loop
+    first-requires
+    start-requires
+    loop-holds
+    read-part-requires
+    slice-aggregate-answer-part
+    answer-part-requires
+    same-length
+    same-length-2
+    same-length-3
+    same-length-4
+    returns
+    sub-turns
+    loop-less
+    loop-again
+    same-length-5
+    same-length-6
+    same-length-7
+    same-length-8
+    returns-2)
