@@ -1,0 +1,67 @@
+// The profiles come in as a lent list of records, and go into the array that the box holds.
+ghost use mathlib.Core.Path.{_≡_};
+ghost use Prim.Native.Nat.{_<_, min};
+ghost use lib.ListN.{length, set};
+ghost use Rattle.profile_list.specs.Copied.{copiedOf, countOf, zeroProfiles};
+use config::Profile;
+use config::Profiles;
+
+const MAX_PROFILES: usize = 16;
+
+// An array with no profile, and the count of a list of n: 17 stands for every list that is too long.
+fn blank(n: usize) -> Profiles
+    ensures { λ r. ⌜ r ≡ record { list = zeroProfiles 16; count = countOf n } ⌝ }
+{
+    let zero = Profile {
+        kind: 0,
+        pid: 0,
+        priority: 0,
+        limited: false,
+        threshold: 0,
+        enabled: false,
+    };
+    let list = [zero; 16];
+    if MAX_PROFILES < n {
+        return Profiles {
+            list: list,
+            count: 17,
+        };
+    }
+    Profiles {
+        list: list,
+        count: n as u8,
+    }
+}
+
+// How many records of a list of n are copied.
+fn kept(n: usize) -> usize
+    ensures { λ r. ⌜ r ≡ min n 16 ⌝ }
+{
+    if MAX_PROFILES < n {
+        return MAX_PROFILES;
+    }
+    n
+}
+
+fn put(mut into: Profiles, i: usize, profile: Profile) -> Profiles
+    requires { ⌜ i < 16 ⌝ }
+    ensures { λ r. ⌜ r ≡ record { list = set (into .list) i profile; count = into .count } ⌝ }
+{
+    into.list[i] = profile;
+    into
+}
+
+// The records as they stand in the lent list, at most 16 of them.
+pub fn copied(profiles: &[Profile]) -> Profiles
+    ensures { λ r. ⌜ r ≡ copiedOf (now (profiles .entry)) ⌝ }
+{
+    let n = profiles.len();
+    let end = kept(n);
+    let mut into = blank(n);
+    let mut i = 0;
+    while i < end {
+        into = put(into, i, profiles[i]);
+        i += 1;
+    }
+    into
+}
