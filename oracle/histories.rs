@@ -72,7 +72,6 @@ impl Generator<'_> {
             weights: CALLS.iter().map(|&(call, weight)| kind.weight(c, call, weight)).collect(),
             pids: kind.pids(c),
             step: c.pick(&[1, 2, 10, 40, 200, 1000, 3000]),
-            show: if length < 400 { 1 } else { 8 },
             time: if c.one_in(20) {
                 c.pick(&[LAST_TIME - 10_000, LAST_TIME])
             } else {
@@ -90,16 +89,14 @@ impl Generator<'_> {
         }
     }
 
-    /// Writes a call and learns from its answer.
+    /// Writes a call, learns from its answer, and has the lists shown after it.
     fn call(&mut self, line: String) {
         let answer = self.oracle.answer(line.as_bytes());
         let answer = answer.unwrap_or_else(|| panic!("the generator wrote {line}"));
         writeln!(self.out, "{line}").expect("standard output can be written");
         self.written += 1;
         self.learn(&line, &answer);
-        if self.chance.one_in(self.history.show) {
-            writeln!(self.out, "show").expect("standard output can be written");
-        }
+        writeln!(self.out, "show").expect("standard output can be written");
     }
 
     fn learn(&mut self, line: &str, answer: &str) {

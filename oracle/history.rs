@@ -69,8 +69,6 @@ pub struct History {
     pub pids: Vec<Pid>,
     /// The largest usual step of time.
     pub step: u64,
-    /// A `show` follows one call in so many.
-    pub show: u64,
     pub time: u64,
     /// The interval, the promotion threshold, the demotion limit and the removal limit.
     pub limits: [u64; 4],
