@@ -2,7 +2,6 @@
 // of that name brought before; a bad line leaves it as it was.
 use super::Line;
 use super::Parsed;
-use super::lists;
 use super::plain;
 use super::rest;
 use history_tokens::numbers;
@@ -17,15 +16,22 @@ use link::Session;
 use obd2::call::Brought;
 use obd2::call::Call;
 use rounds::Outcome;
+ghost use mathlib.Core.Path.{_≡_};
+ghost use Rattle.history_tokens.specs.Items.{itemsOf};
+ghost use Rattle.history.specs.Bringing.{bare, called, startOf, changedOf, answeredOf, connectOf, connectedOf, isOf, resultOf};
 
-fn bad(brought: Brought) -> Parsed {
+fn bad(brought: Brought) -> Parsed
+    ensures { λ r. ⌜ r ≡ bare brought ⌝ }
+{
     Parsed {
         brought,
         line: Line::Bad,
     }
 }
 
-fn call(brought: Brought, time: u64, call: Call) -> Parsed {
+fn call(brought: Brought, time: u64, call: Call) -> Parsed
+    ensures { λ r. ⌜ r ≡ called brought time call ⌝ }
+{
     Parsed {
         brought,
         line: Line::Call {
@@ -38,11 +44,13 @@ fn call(brought: Brought, time: u64, call: Call) -> Parsed {
 }
 
 // SETTINGS PROFILE..
-pub fn start(mut brought: Brought, time: u64, rest: &[u8]) -> Parsed {
+pub fn start(mut brought: Brought, time: u64, rest: &[u8]) -> Parsed
+    ensures { λ r. ⌜ r ≡ startOf brought time (itemsOf 32 (now (rest .entry))) ⌝ }
+{
     let SettingsToken::Value(settings) = wishes::settings(rest::first(rest)) else {
         return bad(brought);
     };
-    let read = lists::profiles(rest::behind(rest));
+    let read = history_lists::profiles(rest::behind(rest));
     if !read.good {
         return bad(brought);
     }
@@ -55,8 +63,10 @@ pub fn start(mut brought: Brought, time: u64, rest: &[u8]) -> Parsed {
 }
 
 // PROFILE..
-pub fn profiles(mut brought: Brought, time: u64, rest: &[u8]) -> Parsed {
-    let read = lists::profiles(rest);
+pub fn profiles(mut brought: Brought, time: u64, rest: &[u8]) -> Parsed
+    ensures { λ r. ⌜ r ≡ changedOf brought time (itemsOf 32 (now (rest .entry))) ⌝ }
+{
+    let read = history_lists::profiles(rest);
     if !read.good {
         return bad(brought);
     }
@@ -66,8 +76,10 @@ pub fn profiles(mut brought: Brought, time: u64, rest: &[u8]) -> Parsed {
 }
 
 // REPLY..
-pub fn response(mut brought: Brought, time: u64, rest: &[u8]) -> Parsed {
-    let read = lists::response(rest);
+pub fn response(mut brought: Brought, time: u64, rest: &[u8]) -> Parsed
+    ensures { λ r. ⌜ r ≡ answeredOf brought time (itemsOf 32 (now (rest .entry))) ⌝ }
+{
+    let read = history_lists::response(rest);
     if !read.good {
         return bad(brought);
     }
@@ -77,7 +89,9 @@ pub fn response(mut brought: Brought, time: u64, rest: &[u8]) -> Parsed {
 }
 
 // 0, or 1 KNOWN STATE and eight RANGEs
-pub fn connect(brought: Brought, time: u64, rest: &[u8]) -> Parsed {
+pub fn connect(brought: Brought, time: u64, rest: &[u8]) -> Parsed
+    ensures { λ r. ⌜ r ≡ connectOf brought time (itemsOf 32 (now (rest .entry))) ⌝ }
+{
     let FlagToken::Value(made) = numbers::flag(rest::first(rest)) else {
         return bad(brought);
     };
@@ -92,7 +106,9 @@ pub fn connect(brought: Brought, time: u64, rest: &[u8]) -> Parsed {
 }
 
 // KNOWN STATE and eight RANGEs
-fn connected(mut brought: Brought, time: u64, rest: &[u8]) -> Parsed {
+fn connected(mut brought: Brought, time: u64, rest: &[u8]) -> Parsed
+    ensures { λ r. ⌜ r ≡ connectedOf brought time (itemsOf 32 (now (rest .entry))) ⌝ }
+{
     let second = rest::behind(rest);
     let token = session::known(rest::first(rest));
     if !token.good {
@@ -101,7 +117,7 @@ fn connected(mut brought: Brought, time: u64, rest: &[u8]) -> Parsed {
     let StateToken::Value(multi) = session::state(rest::first(second)) else {
         return bad(brought);
     };
-    let read = lists::ranges(rest::behind(second));
+    let read = history_lists::ranges(rest::behind(second));
     if !read.good {
         return bad(brought);
     }
@@ -117,7 +133,9 @@ fn connected(mut brought: Brought, time: u64, rest: &[u8]) -> Parsed {
 }
 
 // Whether a result teaches of as many PIDs as it has to. Where none is due, the box refuses it.
-fn is_of(due: bool, asked: usize, count: usize) -> bool {
+fn is_of(due: bool, asked: usize, count: usize) -> bool
+    ensures { λ r. ⌜ r ≡ isOf due asked count ⌝ }
+{
     if due {
         return count == asked;
     }
@@ -125,7 +143,9 @@ fn is_of(due: bool, asked: usize, count: usize) -> bool {
 }
 
 // KIND STATE LEARNT..
-pub fn result(mut brought: Brought, time: u64, rest: &[u8], due: bool, asked: usize) -> Parsed {
+pub fn result(mut brought: Brought, time: u64, rest: &[u8], due: bool, asked: usize) -> Parsed
+    ensures { λ r. ⌜ r ≡ resultOf due asked brought time (itemsOf 32 (now (rest .entry))) ⌝ }
+{
     let second = rest::behind(rest);
     let KindToken::Value(kind) = session::kind(rest::first(rest)) else {
         return bad(brought);
@@ -133,7 +153,7 @@ pub fn result(mut brought: Brought, time: u64, rest: &[u8], due: bool, asked: us
     let StateToken::Value(multi) = session::state(rest::first(second)) else {
         return bad(brought);
     };
-    let read = lists::learnt(rest::behind(second));
+    let read = history_lists::learnt(rest::behind(second));
     if !read.good {
         return bad(brought);
     }

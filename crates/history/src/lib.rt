@@ -1,6 +1,7 @@
 // A line of a history as a call of the box: history-format.md, "Calls of the box". Empty lines, comments and
 // lines that are too long are not handed in here.
 use config::Settings;
+use history_tokens::session;
 use link::FeatureSupport;
 use link::Features;
 use link::Session;
@@ -10,12 +11,15 @@ use obd2::call::Call;
 use rounds::Kind;
 use rounds::Outcome;
 use word::Word;
+ghost use mathlib.Core.Path.{_≡_};
+ghost use lib.ListN.{length};
+ghost use Rattle.history_tokens.specs.Items.{splitOf, itemsOf};
+ghost use Rattle.history.specs.Bringing.{parsed};
+ghost use Rattle.history.specs.Lines.{nothingBrought, untimedOf, timedOf, timedBytes, parsedOf, lentOf};
 
 // the calls that bring a list, and those that bring none
 mod bringing;
 mod plain;
-// what the calls bring: lists of tokens
-pub mod lists;
 // the tokens behind a line's word
 mod rest;
 // a line's word
@@ -44,41 +48,50 @@ pub struct Parsed {
     pub line: Line,
 }
 
-fn none_known() -> [bool; 256] {
-    [false; 256]
-}
-
 // What no call has brought yet.
-pub fn nothing() -> Brought {
-    let ranges = lists::no_ranges();
-    let known = none_known();
-    let learnt = lists::nothing_learnt();
+pub fn nothing() -> Brought
+    ensures { λ r. ⌜ r ≡ nothingBrought ⌝ }
+{
+    let ranges = history_lists::no_ranges();
+    let known = session::none_known();
+    let learnt = history_lists::nothing_learnt();
+    let features = Features {
+        multi: FeatureSupport::Unknown,
+    };
     Brought {
-        profiles: lists::no_profiles(),
-        response: lists::no_response(),
+        profiles: history_lists::no_profiles(),
+        response: history_lists::no_response(),
         session: Session {
-            features: Features {
-                multi: FeatureSupport::Unknown,
-            },
+            features,
             ranges,
             known,
         },
         outcome: Outcome {
             kind: Kind::Replied,
-            features: Features {
-                multi: FeatureSupport::Unknown,
-            },
+            features,
             learnt,
         },
     }
 }
 
-// A line without a call's word: `show`, or bad.
-fn show(line: &[u8]) -> Line {
-    if text::is(line, b"show") {
-        return Line::Show;
+// A line without a time: `show`, or bad.
+fn untimed(word: &[u8], rest: &[u8]) -> Line
+    ensures { λ r. ⌜ r ≡ untimedOf (now (word .entry)) (itemsOf 32 (now (rest .entry))) ⌝ }
+{
+    if text::is(word, b"show") {
+        if rest::is_end(rest) {
+            return Line::Show;
+        }
+        return Line::Bad;
     }
     Line::Bad
+}
+
+// A line that brings nothing.
+fn beside(brought: Brought, line: Line) -> Parsed
+    ensures { λ r. ⌜ r ≡ parsed brought line ⌝ }
+{
+    Parsed { brought, line }
 }
 
 // What a line says behind its word and its time.
@@ -90,77 +103,47 @@ fn timed(
     due: bool,
     asked: usize,
     bytes: &mut [u8],
-) -> Parsed {
+) -> Parsed
+    ensures { λ r. ⌜ r ≡ timedOf due asked (length (now (bytes .entry))) brought time (itemsOf 32 (now (rest .entry))) word ⌝ }
+    ensures { λ r. ⌜ now (bytes .exit) ≡ timedBytes (now (bytes .entry)) (itemsOf 32 (now (rest .entry))) word ⌝ }
+{
     match word {
-        Word::Bare(call) => Parsed {
-            brought,
-            line: plain::alone(time, call, rest),
-        },
+        Word::Bare(call) => beside(brought, plain::alone(time, call, rest)),
         Word::Outcome => bringing::result(brought, time, rest, due, asked),
         Word::Response => bringing::response(brought, time, rest),
-        Word::Ask => Parsed {
-            brought,
-            line: plain::ask(time, rest, bytes),
-        },
-        Word::Collect => Parsed {
-            brought,
-            line: plain::collect(time, rest),
-        },
-        Word::Waiting => Parsed {
-            brought,
-            line: plain::waiting(time, rest),
-        },
-        Word::Consumed => Parsed {
-            brought,
-            line: plain::consumed(time, rest),
-        },
-        Word::Leave => Parsed {
-            brought,
-            line: plain::leave(time, rest),
-        },
-        Word::GiveUp => Parsed {
-            brought,
-            line: plain::give_up(time, rest),
-        },
+        Word::Ask => beside(brought, plain::ask(time, rest, bytes)),
+        Word::Collect => beside(brought, plain::collect(time, rest)),
+        Word::Waiting => beside(brought, plain::waiting(time, rest)),
+        Word::Consumed => beside(brought, plain::consumed(time, rest)),
+        Word::Leave => beside(brought, plain::leave(time, rest)),
+        Word::GiveUp => beside(brought, plain::give_up(time, rest)),
         Word::Profiles => bringing::profiles(brought, time, rest),
-        Word::Settings => Parsed {
-            brought,
-            line: plain::set_settings(time, rest),
-        },
+        Word::Settings => beside(brought, plain::set_settings(time, rest)),
         Word::Connect => bringing::connect(brought, time, rest),
         Word::Start => bringing::start(brought, time, rest),
-        Word::Other => Parsed {
-            brought,
-            line: Line::Bad,
-        },
+        Word::Other => beside(brought, Line::Bad),
     }
 }
 
 // The call that a line is. `due` says whether a result is due, and `asked` how many PIDs its query has. The
 // bytes of a command stand at the start of `bytes` then; a command that has no room there is bad.
-pub fn parse(brought: Brought, line: &[u8], due: bool, asked: usize, bytes: &mut [u8]) -> Parsed {
+pub fn parse(brought: Brought, line: &[u8], due: bool, asked: usize, bytes: &mut [u8]) -> Parsed
+    ensures { λ r. ⌜ r ≡ parsedOf due asked (length (now (bytes .entry))) brought (splitOf 32 (now (line .entry))) ⌝ }
+    ensures { λ r. ⌜ now (bytes .exit) ≡ lentOf (now (bytes .entry)) (splitOf 32 (now (line .entry))) ⌝ }
+{
     let end = text::until(line, b' ');
-    let word = word::of(&line[..end]);
+    let word = &line[..end];
     let rest = &line[end..];
-    match word {
-        Word::Other => Parsed {
+    match numeral::read(rest::first(rest), u64::MAX) {
+        Number::Value(time) => timed(
             brought,
-            line: show(line),
-        },
-        _ => match numeral::read(rest::first(rest), u64::MAX) {
-            Number::Value(time) => timed(
-                brought,
-                word,
-                time,
-                rest::behind(rest),
-                due,
-                asked,
-                bytes,
-            ),
-            Number::Bad => Parsed {
-                brought,
-                line: Line::Bad,
-            },
-        },
+            word::of(word),
+            time,
+            rest::behind(rest),
+            due,
+            asked,
+            bytes,
+        ),
+        Number::Bad => beside(brought, untimed(word, rest)),
     }
 }

@@ -10,13 +10,19 @@ use history_tokens::wishes;
 use history_tokens::wishes::SettingsToken;
 use numeral::Number;
 use obd2::call::Call;
+ghost use mathlib.Core.Path.{_≡_};
+ghost use lib.ListN.{length};
+ghost use Rattle.history_tokens.specs.Items.{itemsOf};
+ghost use Rattle.history.specs.Plain.{aloneOf, leaveOf, giveUpOf, waitingOf, setOf, consumedOf, collectOf, askOf, askBytes};
 
 // The largest area that a call lends.
 const LARGEST: u64 = 4096;
 
 // A call behind which nothing more may stand.
-pub fn alone(time: u64, call: Call, rest: &[u8]) -> Line {
-    if rest.len() != 0 {
+pub fn alone(time: u64, call: Call, rest: &[u8]) -> Line
+    ensures { λ r. ⌜ r ≡ aloneOf time call (itemsOf 32 (now (rest .entry))) ⌝ }
+{
+    if !rest::is_end(rest) {
         return Line::Bad;
     }
     Line::Call {
@@ -28,7 +34,9 @@ pub fn alone(time: u64, call: Call, rest: &[u8]) -> Line {
 }
 
 // CLIENT
-pub fn leave(time: u64, rest: &[u8]) -> Line {
+pub fn leave(time: u64, rest: &[u8]) -> Line
+    ensures { λ r. ⌜ r ≡ leaveOf time (itemsOf 32 (now (rest .entry))) ⌝ }
+{
     match numbers::number32(rest::first(rest)) {
         Word32::Value(client) => alone(time, Call::Leave(client), rest::behind(rest)),
         Word32::Bad => Line::Bad,
@@ -36,7 +44,9 @@ pub fn leave(time: u64, rest: &[u8]) -> Line {
 }
 
 // CLIENT
-pub fn give_up(time: u64, rest: &[u8]) -> Line {
+pub fn give_up(time: u64, rest: &[u8]) -> Line
+    ensures { λ r. ⌜ r ≡ giveUpOf time (itemsOf 32 (now (rest .entry))) ⌝ }
+{
     match numbers::number32(rest::first(rest)) {
         Word32::Value(client) => alone(time, Call::GiveUp(client), rest::behind(rest)),
         Word32::Bad => Line::Bad,
@@ -44,7 +54,10 @@ pub fn give_up(time: u64, rest: &[u8]) -> Line {
 }
 
 // CLIENT COMMAND AREA. The command's bytes are put down last, where nothing else is bad.
-pub fn ask(time: u64, rest: &[u8], bytes: &mut [u8]) -> Line {
+pub fn ask(time: u64, rest: &[u8], bytes: &mut [u8]) -> Line
+    ensures { λ r. ⌜ r ≡ askOf (length (now (bytes .entry))) time (itemsOf 32 (now (rest .entry))) ⌝ }
+    ensures { λ r. ⌜ now (bytes .exit) ≡ askBytes (now (bytes .entry)) (itemsOf 32 (now (rest .entry))) ⌝ }
+{
     let second = rest::behind(rest);
     let third = rest::behind(second);
     let Word32::Value(client) = numbers::number32(rest::first(rest)) else {
@@ -53,23 +66,25 @@ pub fn ask(time: u64, rest: &[u8], bytes: &mut [u8]) -> Line {
     let Number::Value(area) = numeral::read(rest::first(third), LARGEST) else {
         return Line::Bad;
     };
-    let after = rest::behind(third);
-    if after.len() != 0 {
+    if !rest::is_end(rest::behind(third)) {
         return Line::Bad;
     }
-    let Bytes::Count(cmd) = hex::command(rest::first(second), bytes) else {
-        return Line::Bad;
-    };
-    Line::Call {
-        time,
-        call: Call::Ask(client),
-        cmd,
-        area: area as usize,
+    match hex::command(rest::first(second), bytes) {
+        Bytes::Count(cmd) => Line::Call {
+            time,
+            call: Call::Ask(client),
+            cmd,
+            area: area as usize,
+        },
+        Bytes::Bad => Line::Bad,
+        Bytes::Short => Line::Bad,
     }
 }
 
 // CLIENT AREA
-pub fn collect(time: u64, rest: &[u8]) -> Line {
+pub fn collect(time: u64, rest: &[u8]) -> Line
+    ensures { λ r. ⌜ r ≡ collectOf time (itemsOf 32 (now (rest .entry))) ⌝ }
+{
     let second = rest::behind(rest);
     let Word32::Value(client) = numbers::number32(rest::first(rest)) else {
         return Line::Bad;
@@ -77,8 +92,7 @@ pub fn collect(time: u64, rest: &[u8]) -> Line {
     let Number::Value(area) = numeral::read(rest::first(second), LARGEST) else {
         return Line::Bad;
     };
-    let after = rest::behind(second);
-    if after.len() != 0 {
+    if !rest::is_end(rest::behind(second)) {
         return Line::Bad;
     }
     Line::Call {
@@ -90,7 +104,9 @@ pub fn collect(time: u64, rest: &[u8]) -> Line {
 }
 
 // PID
-pub fn waiting(time: u64, rest: &[u8]) -> Line {
+pub fn waiting(time: u64, rest: &[u8]) -> Line
+    ensures { λ r. ⌜ r ≡ waitingOf time (itemsOf 32 (now (rest .entry))) ⌝ }
+{
     match hex::pid(rest::first(rest)) {
         Byte::Value(pid) => alone(time, Call::Waiting(pid), rest::behind(rest)),
         Byte::Bad => Line::Bad,
@@ -98,7 +114,9 @@ pub fn waiting(time: u64, rest: &[u8]) -> Line {
 }
 
 // PID WAIT
-pub fn consumed(time: u64, rest: &[u8]) -> Line {
+pub fn consumed(time: u64, rest: &[u8]) -> Line
+    ensures { λ r. ⌜ r ≡ consumedOf time (itemsOf 32 (now (rest .entry))) ⌝ }
+{
     let second = rest::behind(rest);
     let Byte::Value(pid) = hex::pid(rest::first(rest)) else {
         return Line::Bad;
@@ -110,7 +128,9 @@ pub fn consumed(time: u64, rest: &[u8]) -> Line {
 }
 
 // SETTINGS
-pub fn set_settings(time: u64, rest: &[u8]) -> Line {
+pub fn set_settings(time: u64, rest: &[u8]) -> Line
+    ensures { λ r. ⌜ r ≡ setOf time (itemsOf 32 (now (rest .entry))) ⌝ }
+{
     match wishes::settings(rest::first(rest)) {
         SettingsToken::Value(settings) => alone(
             time,

@@ -1,8 +1,13 @@
-// The tokens behind a line's word. A rest is empty, or a space and a token, and so on. Where there is no token,
-// the first is empty, which no token may be.
+// The tokens behind a line's word. A rest is empty, or a space and a token, and so on.
 use history_tokens::items;
+ghost use mathlib.Core.Path.{_≡_};
+ghost use Rattle.history_tokens.specs.Items.{itemsOf};
+ghost use Rattle.history.specs.Tokens.{firstOf, restOf, noneOf};
 
-pub fn first(rest: &[u8]) -> &[u8] {
+// The first token; an empty one, which no token may be, where there is none.
+pub fn first(rest: &[u8]) -> &[u8]
+    ensures { λ r. ⌜ now r ≡ firstOf (itemsOf 32 (now (rest .entry))) ⌝ }
+{
     let end = items::end(rest, 0, b' ');
     if end == 0 {
         return rest;
@@ -11,7 +16,16 @@ pub fn first(rest: &[u8]) -> &[u8] {
 }
 
 // What stands behind the first token.
-pub fn behind(rest: &[u8]) -> &[u8] {
+pub fn behind(rest: &[u8]) -> &[u8]
+    ensures { λ r. ⌜ itemsOf 32 (now r) ≡ restOf (itemsOf 32 (now (rest .entry))) ⌝ }
+{
     let end = items::end(rest, 0, b' ');
     &rest[end..]
+}
+
+// Whether no token is left.
+pub fn is_end(rest: &[u8]) -> bool
+    ensures { λ r. ⌜ r ≡ noneOf (itemsOf 32 (now (rest .entry))) ⌝ }
+{
+    rest.len() == 0
 }

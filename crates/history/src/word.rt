@@ -1,5 +1,7 @@
 // A line's word.
 use obd2::call::Call;
+ghost use mathlib.Core.Path.{_≡_};
+ghost use Rattle.history.specs.Words.{rareOf, wordOf};
 
 pub enum Word {
     // a call of which the line says the time alone
@@ -21,7 +23,9 @@ pub enum Word {
 }
 
 // Words that are often said are looked for first.
-pub fn of(s: &[u8]) -> Word {
+pub fn of(s: &[u8]) -> Word
+    ensures { λ r. ⌜ r ≡ wordOf (now (s .entry)) ⌝ }
+{
     if text::is(s, b"next") {
         return Word::Bare(Call::Next);
     }
@@ -52,7 +56,9 @@ pub fn of(s: &[u8]) -> Word {
     rare(s)
 }
 
-fn rare(s: &[u8]) -> Word {
+fn rare(s: &[u8]) -> Word
+    ensures { λ r. ⌜ r ≡ rareOf (now (s .entry)) ⌝ }
+{
     if text::is(s, b"tick") {
         return Word::Bare(Call::Tick);
     }

@@ -1,34 +1,36 @@
--- What the reading of pairs says of the room that they find.
-use mathlib.Core.Bool.{Bool, true, false}
+-- What the reading of pairs says of a text and of the room that it finds.
+use mathlib.Core.Bool.{true, false}
 use mathlib.Core.List.{List}
 use mathlib.Core.Path.{_≡_, refl, sym, _∙_}
 use Prim.Native.Nat.{ℕ, _/_, _≤_, _<_}
-use native.Mathlib.Omega.{arith}
 use lib.Dec.{leb}
 use lib.ListN.{length}
-use borrow.Author.Tests.{leb-false}
-use Rattle.base.specs.Choice.{pick, cases}
+use borrow.Author.Tests.{leb-true, leb-false}
+use Rattle.base.specs.Choice.{cases}
 use Rattle.hex.specs.Pairs.{isPairs, bytesOf}
-use Rattle.hex.specs.Within.{bytes-within}
 use Rattle.hex.specs.declared.Bytes.{Bytes}
 use Rattle.hex.specs.declared.Bytes.the-variants.{Count, Bad, Short}
 
-pub count-room : (room : ℕ) (s : List ℕ) (b : Bytes) (n : ℕ) → b ≡ bytesOf room s → b ≡ Count n → n ≤ room
-count-room room s b n e f = rw (sym e ∙ f) at (bytes-within room s)
+abbrev pub Says : ℕ → List ℕ → Bytes → Type 0
+Says room s (Count n) = (isPairs s ≡ true) × (n ≡ length s / 2) × (n ≤ room)
+Says room s Bad = isPairs s ≡ false
+Says room s Short = (isPairs s ≡ true) × (room < length s / 2)
 
-abbrev Past : ℕ → ℕ → Bytes → Type 0
-Past room n (Count k) = Unit {0}
-Past room n Bad = Unit {0}
-Past room n Short = room < n
-
-past : (room : ℕ) (s : List ℕ) → Past room (length s / 2) (bytesOf room s)
+says : (room : ℕ) (s : List ℕ) → Says room s (bytesOf room s)
 unfolding bytesOf
-past room s =
+says room s =
     cases _ (isPairs s)
     (λ e. rw e (cases _ (leb (length s / 2) room)
-    (λ f. rw f tt)
-    (λ f. rw f (leb-false (length s / 2) room f))))
-    (λ e. rw e tt)
+    (λ f. rw f (e, refl, leb-true (length s / 2) room f))
+    (λ f. rw f (e, leb-false (length s / 2) room f))))
+    (λ e. rw e e)
 
-pub short-room : (room : ℕ) (s : List ℕ) (b : Bytes) → b ≡ bytesOf room s → b ≡ Short → room < length s / 2
-short-room room s b e f = rw (sym e ∙ f) at (past room s)
+module _ (room : ℕ) (s : List ℕ) (b : Bytes) (e : b ≡ bytesOf room s) where
+  pub count-says : (n : ℕ) → b ≡ Count n → (isPairs s ≡ true) × (n ≡ length s / 2) × (n ≤ room)
+  count-says n f = rw (sym e ∙ f) at (says room s)
+
+  pub bad-says : b ≡ Bad → isPairs s ≡ false
+  bad-says f = rw (sym e ∙ f) at (says room s)
+
+  pub short-says : b ≡ Short → (isPairs s ≡ true) × (room < length s / 2)
+  short-says f = rw (sym e ∙ f) at (says room s)

@@ -8,8 +8,8 @@ use reply::MAX_LINES;
 use reply::RangeReply;
 use reply::Reply;
 ghost use mathlib.Core.Path.{_≡_};
-ghost use Prim.Native.Nat.{_≤_, _-_};
-ghost use Rattle.hex.specs.Pairs.{bytesOf};
+ghost use Prim.Native.Nat.{_≤_};
+ghost use Rattle.history_tokens.specs.Replies.{placedOf, filledOf, shortOf, countLine, addedOf, linesOf, noPid, isLines, replyOf, emptyRange, rangeOf};
 
 // The lines' reply, an empty one where the token is bad.
 pub struct ReplyToken {
@@ -52,7 +52,7 @@ struct Added {
 // Puts the bytes of a line at a place, if they have room there.
 fn place(mut bytes: [u8; MAX_BYTES], at: usize, s: &[u8]) -> Placed
     requires { ⌜ at ≤ 64 ⌝ }
-    ensures { λ r. ⌜ r .read ≡ bytesOf (64 - at) (now (s .entry)) ⌝ }
+    ensures { λ r. ⌜ r ≡ placedOf bytes at (now (s .entry)) ⌝ }
 {
     let read = hex::read(s, &mut bytes[at..]);
     Placed { bytes, read }
@@ -61,7 +61,7 @@ fn place(mut bytes: [u8; MAX_BYTES], at: usize, s: &[u8]) -> Placed
 // The bytes of a line behind those that stand there. What has no room is left out.
 fn fill(bytes: [u8; MAX_BYTES], at: usize, s: &[u8]) -> Filled
     requires { ⌜ at ≤ 64 ⌝ }
-    ensures { λ r. ⌜ r .fill ≤ 64 ⌝ }
+    ensures { λ r. ⌜ r ≡ filledOf bytes at (now (s .entry)) ⌝ }
 {
     let whole = place(bytes, at, s);
     let read = whole.read;
@@ -91,26 +91,29 @@ fn fill(bytes: [u8; MAX_BYTES], at: usize, s: &[u8]) -> Filled
 }
 
 // A length as a reply holds it.
-fn short(length: usize) -> u8 {
+fn short(length: usize) -> u8
+    ensures { λ r. ⌜ r ≡ shortOf length ⌝ }
+{
     if length < 255 { length as u8 } else { 255 }
 }
 
 // One line more, of this length.
-fn count_line(mut reply: Reply, length: usize) -> Reply {
+fn count_line(mut reply: Reply, length: usize) -> Reply
+    ensures { λ r. ⌜ r ≡ countLine reply length ⌝ }
+{
     let n = reply.lines;
+    reply.lines = items::more(n);
     let i = n as usize;
     if i < MAX_LINES {
         reply.lengths[i] = short(length);
-    }
-    if n < 255 {
-        reply.lines = n + 1;
+        return reply;
     }
     reply
 }
 
 fn add_line(mut reply: Reply, at: usize, s: &[u8]) -> Added
     requires { ⌜ at ≤ 64 ⌝ }
-    ensures { λ r. ⌜ r .fill ≤ 64 ⌝ }
+    ensures { λ r. ⌜ r ≡ addedOf reply at (now (s .entry)) ⌝ }
 {
     let before = reply.bytes;
     let filled = fill(before, at, s);
@@ -125,7 +128,9 @@ fn add_line(mut reply: Reply, at: usize, s: &[u8]) -> Added
 }
 
 // `:LINE,LINE..`, or nothing for no lines. The first byte is not looked at.
-fn lines(s: &[u8]) -> ReplyToken {
+fn lines(s: &[u8]) -> ReplyToken
+    ensures { λ r. ⌜ r ≡ linesOf (now (s .entry)) ⌝ }
+{
     let mut reply = reply::empty();
     let mut fill = 0;
     let mut at = 0;
@@ -146,7 +151,9 @@ fn lines(s: &[u8]) -> ReplyToken {
     ReplyToken { reply, good: true }
 }
 
-fn bad_reply() -> PidToken {
+fn bad_reply() -> PidToken
+    ensures { λ r. ⌜ r ≡ noPid ⌝ }
+{
     PidToken {
         reply: reply::empty(),
         pid: 0,
@@ -155,14 +162,18 @@ fn bad_reply() -> PidToken {
 }
 
 // Whether a token's lines, if there are any, stand behind a colon.
-fn is_lines(s: &[u8]) -> bool {
+fn is_lines(s: &[u8]) -> bool
+    ensures { λ r. ⌜ r ≡ isLines (now (s .entry)) ⌝ }
+{
     if s.len() == 0 {
         return true;
     }
     s[0] == b':'
 }
 
-pub fn reply(s: &[u8]) -> PidToken {
+pub fn reply(s: &[u8]) -> PidToken
+    ensures { λ r. ⌜ r ≡ replyOf (now (s .entry)) ⌝ }
+{
     if s.len() < 2 {
         return bad_reply();
     }
@@ -181,7 +192,9 @@ pub fn reply(s: &[u8]) -> PidToken {
     }
 }
 
-fn empty_range(present: bool, good: bool) -> RangeToken {
+fn empty_range(present: bool, good: bool) -> RangeToken
+    ensures { λ r. ⌜ r ≡ emptyRange present good ⌝ }
+{
     RangeToken {
         range: RangeReply {
             present,
@@ -191,7 +204,9 @@ fn empty_range(present: bool, good: bool) -> RangeToken {
     }
 }
 
-pub fn range(s: &[u8]) -> RangeToken {
+pub fn range(s: &[u8]) -> RangeToken
+    ensures { λ r. ⌜ r ≡ rangeOf (now (s .entry)) ⌝ }
+{
     if text::is(s, b"-") {
         return empty_range(false, true);
     }

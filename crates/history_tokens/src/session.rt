@@ -8,6 +8,9 @@ use numeral::Number;
 use pid::DataLength;
 use rounds::Kind;
 use rounds::Learnt;
+ghost use mathlib.Core.Path.{_≡_};
+ghost use Prim.Native.Nat.{_<_};
+ghost use Rattle.history_tokens.specs.Session.{stateOf, kindOf, learntOf, noneKnown, hasLength, tableOf, bitOf, bitIn, noKnown, knownOf};
 
 // The PIDs whose lengths are known, none where the token is bad.
 pub struct KnownToken {
@@ -30,12 +33,17 @@ pub enum LearntToken {
     Bad,
 }
 
-fn none_known() -> [bool; 256] {
+// No PID's length is known.
+pub fn none_known() -> [bool; 256]
+    ensures { λ r. ⌜ r ≡ noneKnown ⌝ }
+{
     [false; 256]
 }
 
 // Whether the PID is one of pid.rs's table.
-fn has_length(p: u8) -> bool {
+fn has_length(p: u8) -> bool
+    ensures { λ r. ⌜ r ≡ hasLength p ⌝ }
+{
     match pid::data_length(p) {
         DataLength::Known(_) => true,
         DataLength::Unknown => false,
@@ -43,7 +51,9 @@ fn has_length(p: u8) -> bool {
 }
 
 // The PIDs of pid.rs's table.
-fn of_table() -> [bool; 256] {
+fn of_table() -> [bool; 256]
+    ensures { λ r. ⌜ r ≡ tableOf hasLength 256 ⌝ }
+{
     let mut known = none_known();
     let mut p = 0;
     while p < 256 {
@@ -54,7 +64,10 @@ fn of_table() -> [bool; 256] {
 }
 
 // Bit k of a byte, bit 0 the lowest.
-fn bit(b: u8, k: usize) -> bool {
+fn bit(b: u8, k: usize) -> bool
+    requires { ⌜ k < 8 ⌝ }
+    ensures { λ r. ⌜ r ≡ bitOf b k ⌝ }
+{
     match k {
         0 => b % 2 == 1,
         1 => b / 2 % 2 == 1,
@@ -68,7 +81,9 @@ fn bit(b: u8, k: usize) -> bool {
 }
 
 // The PIDs whose bits are set.
-fn of_bits(bits: [u8; 32]) -> [bool; 256] {
+fn of_bits(bits: [u8; 32]) -> [bool; 256]
+    ensures { λ r. ⌜ r ≡ tableOf (bitIn bits) 256 ⌝ }
+{
     let mut known = none_known();
     let mut p = 0;
     while p < 256 {
@@ -78,39 +93,37 @@ fn of_bits(bits: [u8; 32]) -> [bool; 256] {
     known
 }
 
-pub fn known(s: &[u8]) -> KnownToken {
+fn bad_known() -> KnownToken
+    ensures { λ r. ⌜ r ≡ noKnown ⌝ }
+{
+    let known = none_known();
+    KnownToken { known, good: false }
+}
+
+pub fn known(s: &[u8]) -> KnownToken
+    ensures { λ r. ⌜ r ≡ knownOf (now (s .entry)) ⌝ }
+{
     if text::is(s, b"*") {
-        return KnownToken {
-            known: of_table(),
-            good: true,
-        };
+        let known = of_table();
+        return KnownToken { known, good: true };
     }
     let mut bits = [0u8; 32];
     match hex::read(s, &mut bits) {
         Bytes::Count(n) => {
-            if n == 32 {
-                return KnownToken {
-                    known: of_bits(bits),
-                    good: true,
-                };
+            if n != 32 {
+                return bad_known();
             }
-            KnownToken {
-                known: none_known(),
-                good: false,
-            }
+            let known = of_bits(bits);
+            KnownToken { known, good: true }
         }
-        Bytes::Bad => KnownToken {
-            known: none_known(),
-            good: false,
-        },
-        Bytes::Short => KnownToken {
-            known: none_known(),
-            good: false,
-        },
+        Bytes::Bad => bad_known(),
+        Bytes::Short => bad_known(),
     }
 }
 
-pub fn state(s: &[u8]) -> StateToken {
+pub fn state(s: &[u8]) -> StateToken
+    ensures { λ r. ⌜ r ≡ stateOf (now (s .entry)) ⌝ }
+{
     match numeral::read(s, 2) {
         Number::Value(n) => {
             if n == 0 {
@@ -126,7 +139,9 @@ pub fn state(s: &[u8]) -> StateToken {
 }
 
 // A result's KIND.
-pub fn kind(s: &[u8]) -> KindToken {
+pub fn kind(s: &[u8]) -> KindToken
+    ensures { λ r. ⌜ r ≡ kindOf (now (s .entry)) ⌝ }
+{
     match numeral::read(s, 2) {
         Number::Value(n) => {
             if n == 0 {
@@ -141,7 +156,9 @@ pub fn kind(s: &[u8]) -> KindToken {
     }
 }
 
-pub fn learnt(s: &[u8]) -> LearntToken {
+pub fn learnt(s: &[u8]) -> LearntToken
+    ensures { λ r. ⌜ r ≡ learntOf (now (s .entry)) ⌝ }
+{
     if text::count(s, b',') != 1 {
         return LearntToken::Bad;
     }

@@ -7,6 +7,8 @@ use config::Profile;
 use config::Settings;
 use hex::Byte;
 use numeral::Number;
+ghost use mathlib.Core.Path.{_≡_};
+ghost use Rattle.history_tokens.specs.Wishes.{fourth, pollingOf, keepingOf, settingsOf, subjectOf, profileOf};
 
 pub enum SettingsToken {
     Value(Settings),
@@ -40,7 +42,15 @@ enum KeepingFields {
     Bad,
 }
 
-fn polling(s: &[u8]) -> PollingFields {
+// The first three fields of PROFILE.
+enum SubjectFields {
+    Value { kind: u8, pid: u8, priority: u8 },
+    Bad,
+}
+
+fn polling(s: &[u8]) -> PollingFields
+    ensures { λ r. ⌜ r ≡ pollingOf (now (s .entry)) ⌝ }
+{
     let second = text::tail(s, b',');
     let third = text::tail(second, b',');
     let fourth = text::tail(third, b',');
@@ -64,7 +74,9 @@ fn polling(s: &[u8]) -> PollingFields {
     }
 }
 
-fn keeping(s: &[u8]) -> KeepingFields {
+fn keeping(s: &[u8]) -> KeepingFields
+    ensures { λ r. ⌜ r ≡ keepingOf (now (s .entry)) ⌝ }
+{
     let second = text::tail(s, b',');
     let third = text::tail(second, b',');
     let fourth = text::tail(third, b',');
@@ -88,15 +100,18 @@ fn keeping(s: &[u8]) -> KeepingFields {
     }
 }
 
-// What stands behind the fourth comma.
-fn behind_four(s: &[u8]) -> &[u8] {
+// What stands behind the third comma.
+fn behind_three(s: &[u8]) -> &[u8]
+    ensures { λ r. ⌜ now r ≡ fourth (now (s .entry)) ⌝ }
+{
     let second = text::tail(s, b',');
     let third = text::tail(second, b',');
-    let fourth = text::tail(third, b',');
-    text::tail(fourth, b',')
+    text::tail(third, b',')
 }
 
-pub fn settings(s: &[u8]) -> SettingsToken {
+pub fn settings(s: &[u8]) -> SettingsToken
+    ensures { λ r. ⌜ r ≡ settingsOf (now (s .entry)) ⌝ }
+{
     if text::count(s, b',') != 7 {
         return SettingsToken::Bad;
     }
@@ -114,7 +129,7 @@ pub fn settings(s: &[u8]) -> SettingsToken {
         removal,
         multi,
         maxpids,
-    } = keeping(behind_four(s))
+    } = keeping(text::tail(behind_three(s), b','))
     else {
         return SettingsToken::Bad;
     };
@@ -130,22 +145,42 @@ pub fn settings(s: &[u8]) -> SettingsToken {
     })
 }
 
-pub fn profile(s: &[u8]) -> ProfileToken {
+fn subject(s: &[u8]) -> SubjectFields
+    ensures { λ r. ⌜ r ≡ subjectOf (now (s .entry)) ⌝ }
+{
+    let second = text::tail(s, b',');
+    let third = text::tail(second, b',');
+    let Byte::Value(kind) = numbers::byte(text::head(s, b',')) else {
+        return SubjectFields::Bad;
+    };
+    let Byte::Value(pid) = hex::pid(text::head(second, b',')) else {
+        return SubjectFields::Bad;
+    };
+    let Byte::Value(priority) = numbers::byte(text::head(third, b',')) else {
+        return SubjectFields::Bad;
+    };
+    SubjectFields::Value {
+        kind,
+        pid,
+        priority,
+    }
+}
+
+pub fn profile(s: &[u8]) -> ProfileToken
+    ensures { λ r. ⌜ r ≡ profileOf (now (s .entry)) ⌝ }
+{
     if text::count(s, b',') != 4 {
         return ProfileToken::Bad;
     }
-    let second = text::tail(s, b',');
-    let third = text::tail(second, b',');
-    let fourth = text::tail(third, b',');
-    let Byte::Value(kind) = numbers::byte(text::head(s, b',')) else {
+    let SubjectFields::Value {
+        kind,
+        pid,
+        priority,
+    } = subject(s)
+    else {
         return ProfileToken::Bad;
     };
-    let Byte::Value(pid) = hex::pid(text::head(second, b',')) else {
-        return ProfileToken::Bad;
-    };
-    let Byte::Value(priority) = numbers::byte(text::head(third, b',')) else {
-        return ProfileToken::Bad;
-    };
+    let fourth = behind_three(s);
     let ThresholdToken::Value { limited, threshold } = numbers::threshold(text::head(fourth, b','))
     else {
         return ProfileToken::Bad;

@@ -1,11 +1,14 @@
+-- `history::rest::behind` meets its contract.
+use mathlib.Core.Path.{ap, _∙_}
+use Prim.Native.Nat.{_-_}
 use native.Mathlib.Omega.{arith}
-use Rattle.history_tokens.specs.Items.{end-most}
+use lib.ListN.{length, drop, length-drop}
+use lib.Seq.{take-all}
+use Rattle.history_tokens.specs.Items.{itemsOf, end-most}
+use Rattle.history.specs.Tokens.{rest-is}
 use borrow.Author.Needs.{needs}
 use Rattle.history.proofs.rest.behind.Statement.{statement}
 use Rattle.history.proofs.rest.behind.Tie as tie
-use Rattle.history.proofs.rest.behind.Reads as reads
-use Rattle.history.proofs.rest.behind.Lts as lts
-use Rattle.history_tokens.proofs.items.end.Reads as end-reads
 
 end-requires : tie.Need-end-requires
 end-requires c κs = search needs
@@ -20,7 +23,9 @@ part-result-end : tie.Need-part-result-end
 part-result-end c = search needs
 
 returns : tie.Need-returns
-returns c = search needs
+returns c = let s = c .before .before .before .args .rest .now in
+    let r = c .before .end .result in
+    ap (itemsOf 32) (take-all (length s - r) (drop r s) (omega (arith, length-drop r s))) ∙ rest-is s r (c .before .end .ensures)
 
 pub behind-spec : {M : Type 1} → statement M
 behind-spec =

@@ -1,17 +1,15 @@
-use native.Mathlib.Omega.{arith}
+-- `history::rest::first` meets its contract.
 use Rattle.history_tokens.specs.Items.{end-most}
+use Rattle.history.specs.Tokens.{end-zero, first-none, first-some}
 use borrow.Author.Needs.{needs}
 use Rattle.history.proofs.rest.first.Statement.{statement}
 use Rattle.history.proofs.rest.first.Tie as tie
-use Rattle.history.proofs.rest.first.Reads as reads
-use Rattle.history.proofs.rest.first.Lts as lts
-use Rattle.history_tokens.proofs.items.end.Reads as end-reads
 
 end-requires : tie.Need-end-requires
 end-requires c κs = search needs
 
 returns : tie.Need-returns
-returns c = search needs
+returns c = first-none _ (end-zero _ _ (c .before .end .ensures) (c .if1 .taken))
 
 sub-result : tie.Need-sub-result
 sub-result c = search needs
@@ -23,7 +21,7 @@ part-result-end : tie.Need-part-result-end
 part-result-end c = end-most _ _ _ _ (c .before .end .ensures)
 
 returns-2 : tie.Need-returns-2
-returns-2 c = search needs
+returns-2 c = first-some _ _ (c .before .before .end .ensures) (c .before .if1 .left)
 
 pub first-spec : {M : Type 1} → statement M
 first-spec =

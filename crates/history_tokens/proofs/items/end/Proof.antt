@@ -1,18 +1,15 @@
 -- `history_tokens::items::end` meets its contract.
 use native.Mathlib.Omega.{arith}
 use mathlib.Core.Path.{_≡_, sym, ap, _∙_}
-use Prim.Native.Nat.{ℕ, _-_, _+_}
-use lib.ListN.{length, drop, take, length-drop}
+use Prim.Native.Nat.{_-_, _+_}
+use lib.ListN.{length, drop, length-drop}
 use lib.Seq.{take-all}
 use borrow.Author.Tests.{le-ltb}
 use Rattle.text.specs.Cut.{placeOf, place-le}
-use Rattle.history_tokens.specs.Items.{endOf, end-is, end-within}
+use Rattle.history_tokens.specs.Items.{endOf, end-is}
 use borrow.Author.Needs.{needs}
 use Rattle.history_tokens.proofs.items.end.Statement.{statement}
 use Rattle.history_tokens.proofs.items.end.Tie as tie
-use Rattle.history_tokens.proofs.items.end.Reads as reads
-use Rattle.history_tokens.proofs.items.end.Lts as lts
-use Rattle.text.proofs.until.Reads as until-reads
 
 -- what the search finds, in the whole text's terms
 found : (c : tie.After-until) → c .until .result ≡ placeOf (c .before .before .before .before .args .b) (drop (c .before .before .before .before .args .at + 1) (c .before .before .before .before .args .s .now))

@@ -1,14 +1,10 @@
 -- `history_tokens::numbers::ecu` meets its contract.
-use mathlib.Core.Path.{_≡_, sym, _∙_}
+use mathlib.Core.Path.{sym, _∙_}
 use borrow.Author.Tests.{eq-eqb, ne-eqb}
 use Rattle.history_tokens.specs.Numbers.{ecuOf}
 use borrow.Author.Needs.{needs}
 use Rattle.history_tokens.proofs.numbers.ecu.Statement.{statement}
 use Rattle.history_tokens.proofs.numbers.ecu.Tie as tie
-use Rattle.history_tokens.proofs.numbers.ecu.Reads as reads
-use Rattle.history_tokens.proofs.numbers.ecu.Lts as lts
-use Rattle.history_tokens.proofs.numbers.byte.Reads as byte-reads
-use Rattle.history_tokens.proofs.numbers.is_none.Reads as is-none-reads
 
 is-none-requires : tie.Need-is-none-requires
 is-none-requires c κs = search needs

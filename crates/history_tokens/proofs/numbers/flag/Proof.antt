@@ -1,12 +1,9 @@
 -- `history_tokens::numbers::flag` meets its contract.
-use mathlib.Core.Path.{_≡_, sym, _∙_}
+use mathlib.Core.Path.{sym, _∙_}
 use Rattle.history_tokens.specs.Numbers.{flagOf}
 use borrow.Author.Needs.{needs}
 use Rattle.history_tokens.proofs.numbers.flag.Statement.{statement}
 use Rattle.history_tokens.proofs.numbers.flag.Tie as tie
-use Rattle.history_tokens.proofs.numbers.flag.Reads as reads
-use Rattle.history_tokens.proofs.numbers.flag.Lts as lts
-use Rattle.numeral.proofs.read.Reads as read-reads
 
 read-requires : tie.Need-read-requires
 read-requires c κs = search needs

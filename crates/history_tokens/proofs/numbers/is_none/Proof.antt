@@ -3,9 +3,6 @@ use Rattle.history_tokens.specs.Numbers.{isNone}
 use borrow.Author.Needs.{needs}
 use Rattle.history_tokens.proofs.numbers.is_none.Statement.{statement}
 use Rattle.history_tokens.proofs.numbers.is_none.Tie as tie
-use Rattle.history_tokens.proofs.numbers.is_none.Reads as reads
-use Rattle.history_tokens.proofs.numbers.is_none.Lts as lts
-use Rattle.text.proofs.is.Reads as is-reads
 
 slice-aggregate-is : tie.Need-slice-aggregate-is
 slice-aggregate-is c = search needs

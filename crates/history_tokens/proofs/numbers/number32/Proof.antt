@@ -1,14 +1,11 @@
 -- `history_tokens::numbers::number32` meets its contract.
-use mathlib.Core.Path.{_≡_, sym, _∙_}
+use mathlib.Core.Path.{sym, _∙_}
 use native.Mathlib.Omega.{arith}
 use Rattle.numeral.specs.Laws.{value-most}
 use Rattle.history_tokens.specs.Numbers.{byteOf, word32Of}
 use borrow.Author.Needs.{needs}
 use Rattle.history_tokens.proofs.numbers.number32.Statement.{statement}
 use Rattle.history_tokens.proofs.numbers.number32.Tie as tie
-use Rattle.history_tokens.proofs.numbers.number32.Reads as reads
-use Rattle.history_tokens.proofs.numbers.number32.Lts as lts
-use Rattle.numeral.proofs.read.Reads as read-reads
 
 read-requires : tie.Need-read-requires
 read-requires c κs = search needs

@@ -1,13 +1,9 @@
 -- `history_tokens::numbers::threshold` meets its contract.
-use mathlib.Core.Path.{_≡_, sym, _∙_}
+use mathlib.Core.Path.{sym, _∙_}
 use Rattle.history_tokens.specs.Numbers.{thresholdOf}
 use borrow.Author.Needs.{needs}
 use Rattle.history_tokens.proofs.numbers.threshold.Statement.{statement}
 use Rattle.history_tokens.proofs.numbers.threshold.Tie as tie
-use Rattle.history_tokens.proofs.numbers.threshold.Reads as reads
-use Rattle.history_tokens.proofs.numbers.threshold.Lts as lts
-use Rattle.history_tokens.proofs.numbers.is_none.Reads as is-none-reads
-use Rattle.history_tokens.proofs.numbers.number32.Reads as number32-reads
 
 is-none-requires : tie.Need-is-none-requires
 is-none-requires c κs = search needs

@@ -1,13 +1,9 @@
 -- `history_tokens::numbers::wait` meets its contract.
-use mathlib.Core.Path.{_≡_, sym, _∙_}
+use mathlib.Core.Path.{sym, _∙_}
 use Rattle.history_tokens.specs.Numbers.{waitOf}
 use borrow.Author.Needs.{needs}
 use Rattle.history_tokens.proofs.numbers.wait.Statement.{statement}
 use Rattle.history_tokens.proofs.numbers.wait.Tie as tie
-use Rattle.history_tokens.proofs.numbers.wait.Reads as reads
-use Rattle.history_tokens.proofs.numbers.wait.Lts as lts
-use Rattle.history_tokens.proofs.numbers.is_none.Reads as is-none-reads
-use Rattle.numeral.proofs.read.Reads as read-reads
 
 is-none-requires : tie.Need-is-none-requires
 is-none-requires c κs = search needs

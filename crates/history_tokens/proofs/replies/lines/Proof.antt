@@ -1,18 +1,16 @@
-use Rattle.history_tokens.specs.Items.{end-bounds}
-use lib.ListN.{length}
+-- `history_tokens::replies::lines` meets its contract. The invariant: the answer is that of the lines that are left.
+use borrow.Author.Tests.{not-true, not-false}
+use lib.ListN.{length, drop}
 use Prim.Native.Nat.{_≤_, _-_}
 use native.Mathlib.Omega.{arith}
-use Rattle.history_tokens.specs.Items.{end-past, end-within}
+use mathlib.Core.Path.{_≡_, sym, _∙_}
+use Rattle.history_tokens.specs.Items.{itemsOf, end-bounds}
+use Rattle.history_tokens.specs.Replies.{linesOf, linesFrom, filled-most, lines-start, lines-end, lines-turn, lines-stop}
 use Rattle.history_tokens.proofs.replies.lines.Statement.{statement}
 use Rattle.history_tokens.proofs.replies.lines.Tie as tie
-use Rattle.history_tokens.proofs.replies.lines.Reads as reads
-use Rattle.history_tokens.proofs.replies.lines.Lts as lts
-use Rattle.history_tokens.proofs.items.end.Reads as end-reads
-use Rattle.history_tokens.proofs.replies.add_line.Reads as add-line-reads
-use Rattle.reply.proofs.empty.Reads as empty-reads
 
 abbrev Inv-loop : tie.InvT-loop
-Inv-loop s reply₀ fill₀ at₀ reply fill at = (at ≤ length s) × (fill ≤ 64)
+Inv-loop s reply₀ fill₀ at₀ reply fill at = (at ≤ length s) × (fill ≤ 64) × (linesOf s ≡ linesFrom reply fill (itemsOf 44 (drop at s)))
 
 abbrev μ-loop : tie.MeasureT-loop
 μ-loop s reply₀ fill₀ at₀ reply fill at = length s - at
@@ -21,7 +19,7 @@ empty-requires : tie.Need-empty-requires Inv-loop μ-loop
 empty-requires c κs = tt
 
 loop-holds : tie.Need-loop-holds Inv-loop μ-loop
-loop-holds c = omega arith
+loop-holds c = (omega arith, omega arith, rw (c .empty .ensures) (lines-start _ (c .empty .result) 0 0))
 
 add-next : tie.Need-add-next Inv-loop μ-loop
 add-next c = omega arith
@@ -45,16 +43,25 @@ empty-requires-2 : tie.Need-empty-requires-2 Inv-loop μ-loop
 empty-requires-2 c κs = tt
 
 returns : tie.Need-returns Inv-loop μ-loop
-returns c = tt
+returns c = let a = c .before .before .before in
+    let d = a .before .before in
+    let l = d .before .before .loop in
+    rw (c .empty2 .ensures) (sym (l .inv .2 ∙ lines-stop _ _ _ _ _ (d .end .ensures) (d .before .loop-test .taken) _ (a .add-line .ensures) (not-true (a .add-line .result .good) (c .before .if1 .taken))))
 
 loop-less : tie.Need-loop-less Inv-loop μ-loop
 loop-less c = let d = c .before .before .before .before .before in let e = end-bounds _ _ _ _ (d .end .ensures) (d .before .loop-test .taken) in omega arith
 
 loop-again : tie.Need-loop-again Inv-loop μ-loop
-loop-again c = let d = c .before .before .before .before .before in let e = end-bounds _ _ _ _ (d .end .ensures) (d .before .loop-test .taken) in omega arith
+loop-again c = let a = c .before .before .before in
+    let d = a .before .before in
+    let l = d .before .before .loop in
+    let e = end-bounds _ _ _ _ (d .end .ensures) (d .before .loop-test .taken) in
+    let t = lines-turn _ _ _ _ _ (d .end .ensures) (d .before .loop-test .taken) _ (a .add-line .ensures) (not-false (a .add-line .result .good) (c .before .if1 .left)) in
+    (e .1, rw (a .add-line .ensures) (filled-most _ _ _ (l .inv .1)), l .inv .2 ∙ t)
 
 returns-2 : tie.Need-returns-2 Inv-loop μ-loop
-returns-2 c = tt
+returns-2 c = let l = c .before in
+    sym (l .loop .inv .2 ∙ lines-end _ _ _ _ (c .loop-test .left))
 
 pub lines-spec : {M : Type 1} → statement M
 lines-spec =

@@ -1,0 +1,111 @@
+-- A line as a call: its word, its time, and what the word's row has behind it (history-format.md, "Calls of the
+-- box"). A line is its tokens, parted by one space.
+use mathlib.Core.Bool.{Bool}
+use mathlib.Core.List.{List, [], _∷_}
+use mathlib.Core.Path.{_≡_}
+use Prim.Native.Nat.{ℕ}
+use lib.ListN.{take, drop}
+use Rattle.base.specs.Choice.{pick}
+use Rattle.text.specs.Cut.{placeOf, sameOf}
+use Rattle.numeral.specs.Decimal.{numberOf}
+use Rattle.numeral.specs.declared.Number.{Number}
+use Rattle.numeral.specs.declared.Number.the-variants as number
+use Rattle.link.specs.Rules.{noRanges, unknownFeatures}
+use Rattle.rounds.specs.declared.Kind.the-variants.{Replied}
+use Rattle.obd2.specs.declared.call.Brought.{Brought}
+use Rattle.history_tokens.specs.Items.{splitOf, itemsOf, split-first}
+use Rattle.history_tokens.specs.Session.{noneKnown}
+use Rattle.history_lists.specs.Lists.{noProfiles, noResponse, noLearnt}
+use Rattle.history.specs.Tokens.{firstOf, restOf, noneOf}
+use Rattle.history.specs.Words.{wordOf, show′}
+use Rattle.history.specs.Plain.{Tokens, aloneOf, leaveOf, giveUpOf, waitingOf, setOf, consumedOf, collectOf, askOf, askBytes}
+use Rattle.history.specs.Bringing.{parsed, bare, startOf, changedOf, answeredOf, connectOf, resultOf}
+use Rattle.history.specs.declared.word.Word.{Word}
+use Rattle.history.specs.declared.word.Word.the-variants as word
+use Rattle.history.specs.declared.Line.{Line}
+use Rattle.history.specs.declared.Line.the-variants as line
+use Rattle.history.specs.declared.Parsed.{Parsed}
+
+-- What no call has brought yet.
+unfoldable pub nothingBrought : Brought
+nothingBrought = record {
+  profiles = noProfiles;
+  response = noResponse;
+  session = record { features = unknownFeatures; ranges = noRanges; known = noneKnown };
+  outcome = record { kind = Replied; features = unknownFeatures; learnt = noLearnt };
+}
+
+-- A line with a time behind its word. `room` is the number of the lent bytes.
+module _ (due : Bool) (asked room : ℕ) (b : Brought) (t : ℕ) (ts : Tokens) where
+  unfoldable pub timedOf : Word → Parsed
+  timedOf (word.Bare c) = parsed b (aloneOf t c ts)
+  timedOf word.Outcome = resultOf due asked b t ts
+  timedOf word.Response = answeredOf b t ts
+  timedOf word.Ask = parsed b (askOf room t ts)
+  timedOf word.Collect = parsed b (collectOf t ts)
+  timedOf word.Waiting = parsed b (waitingOf t ts)
+  timedOf word.Consumed = parsed b (consumedOf t ts)
+  timedOf word.Leave = parsed b (leaveOf t ts)
+  timedOf word.GiveUp = parsed b (giveUpOf t ts)
+  timedOf word.Profiles = changedOf b t ts
+  timedOf word.Settings = parsed b (setOf t ts)
+  timedOf word.Connect = connectOf b t ts
+  timedOf word.Start = startOf b t ts
+  timedOf word.Other = bare b
+
+-- What it leaves of the lent bytes: an ask's command stands there.
+unfoldable pub timedBytes : List ℕ → Tokens → Word → List ℕ
+timedBytes d ts (word.Bare c) = d
+timedBytes d ts word.Outcome = d
+timedBytes d ts word.Response = d
+timedBytes d ts word.Ask = askBytes d ts
+timedBytes d ts word.Collect = d
+timedBytes d ts word.Waiting = d
+timedBytes d ts word.Consumed = d
+timedBytes d ts word.Leave = d
+timedBytes d ts word.GiveUp = d
+timedBytes d ts word.Profiles = d
+timedBytes d ts word.Settings = d
+timedBytes d ts word.Connect = d
+timedBytes d ts word.Start = d
+timedBytes d ts word.Other = d
+
+-- A line without one: `show`, "it is no call of the box".
+unfoldable pub untimedOf : List ℕ → Tokens → Line
+untimedOf w ts = pick (sameOf w show′) (pick (noneOf ts) line.Show line.Bad) line.Bad
+
+abbrev pub onTime : {A : Type 0} → Number → (ℕ → A) → A → A
+onTime (number.Value t) f none = f t
+onTime number.Bad f none = none
+
+-- The largest time.
+abbrev last : ℕ
+last = 18446744073709551615
+
+-- A line's tokens: its word, and the others.
+unfoldable pub parsedOf : Bool → ℕ → ℕ → Brought → Tokens → Parsed
+parsedOf due asked room b [] = bare b
+parsedOf due asked room b (w ∷ ts) =
+    onTime (numberOf last (firstOf ts))
+    (λ t. timedOf due asked room b t (restOf ts) (wordOf w))
+    (parsed b (untimedOf w ts))
+
+unfoldable pub lentOf : List ℕ → Tokens → List ℕ
+lentOf d [] = d
+lentOf d (w ∷ ts) = onTime (numberOf last (firstOf ts)) (λ t. timedBytes d (restOf ts) (wordOf w)) d
+
+-- The cases of a line, cut behind its word.
+module _ (due : Bool) (asked room : ℕ) (b : Brought) (s d : List ℕ) (n : ℕ) (e : n ≡ placeOf 32 s) where
+  module _ (w : List ℕ) (f : w ≡ take n s) (ts : Tokens) (g : ts ≡ itemsOf 32 (drop n s)) where
+    cut : splitOf 32 s ≡ w ∷ ts
+    cut = rw (f, g, e) (split-first 32 s)
+
+    pub line-timed : (t : ℕ) → numberOf last (firstOf ts) ≡ number.Value t
+        → (timedOf due asked room b t (restOf ts) (wordOf w) ≡ parsedOf due asked room b (splitOf 32 s)) × (timedBytes d (restOf ts) (wordOf w) ≡ lentOf d (splitOf 32 s))
+    unfolding parsedOf lentOf
+    line-timed t h = (rw (cut, h), rw (cut, h))
+
+    pub line-untimed : numberOf last (firstOf ts) ≡ number.Bad
+        → (parsed b (untimedOf w ts) ≡ parsedOf due asked room b (splitOf 32 s)) × (d ≡ lentOf d (splitOf 32 s))
+    unfolding parsedOf lentOf
+    line-untimed h = (rw (cut, h), rw (cut, h))

@@ -1,0 +1,19 @@
+-- `history_tokens::wishes::behind_three` meets its contract.
+use borrow.Author.Needs.{needs}
+use Rattle.history_tokens.proofs.wishes.behind_three.Statement.{statement}
+use Rattle.history_tokens.proofs.wishes.behind_three.Tie as tie
+
+tail-requires : tie.Need-tail-requires
+tail-requires c κs = search needs
+
+tail-requires-2 : tie.Need-tail-requires-2
+tail-requires-2 c κs = search needs
+
+tail-requires-3 : tie.Need-tail-requires-3
+tail-requires-3 c κs = search needs
+
+returns : tie.Need-returns
+returns c = cc
+
+pub behind-three-spec : {M : Type 1} → statement M
+behind-three-spec = tie.close (tie.spec tail-requires tail-requires-2 tail-requires-3 returns)
