@@ -4,10 +4,11 @@ use obd2::State;
 use obd2::call::Brought;
 use obd2::call::Call;
 ghost use mathlib.Core.Path.{_≡_};
-ghost use Rattle.obd2.specs.History.{step};
+ghost use Rattle.obd2.specs.History.{step, Fit};
 ghost use Rattle.dispatch.specs.Dispatch.{callOf, areaOf};
 
-// Applies one call, at a time, to the box. What the call does not bring or is not lent is left unread.
+// Applies one call, at a time, to the box. What the call does not bring or is not lent is left unread. Every call that
+// can be made is one that demand 3 speaks of (`Fit`).
 pub fn call(
     state: State,
     time: u64,
@@ -18,6 +19,7 @@ pub fn call(
 ) -> Answered
     ensures { λ r. ⌜ r ≡ step state (callOf time call brought (now (cmd .entry)) (now (area .entry))) ⌝ }
     ensures { λ r. ⌜ now (area .exit) ≡ areaOf state time call brought (now (cmd .entry)) (now (area .entry)) ⌝ }
+    ensures { λ _. ⌜ Fit (callOf time call brought (now (cmd .entry)) (now (area .entry))) ⌝ }
 {
     match call {
         Call::Register => desk_calls::register(state, time),

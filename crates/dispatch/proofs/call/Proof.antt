@@ -1,11 +1,22 @@
 use denote.Ref.{now}
-use mathlib.Core.Path.{refl}
-use Rattle.obd2.specs.History.{step, lentAfter}
+use lib.ListN.{length-map}
+use mathlib.Core.Path.{refl, subst}
+use Rattle.obd2.specs.History.{step, lentAfter, FitResponse}
 use Rattle.dispatch.specs.Dispatch.{callOf, areaOf, fills}
 use Rattle.dispatch.specs.Laws.{found}
-use borrow.Author.Needs.{needs}
+use borrow.Author.Needs.{needs, elem-fits-field}
+use mir.Syntax.{w8}
+use denote.Enum.Laws.{owed, Fields, spellss}
+use denote.Enum.Declared.{variants}
+use Rattle.obd2.specs.declared.call.Call.{Call}
+use Rattle.obd2.proofs.call.Call.{the-type}
+use Rattle.obd2.proofs.call.Call.Laws.{the-laws}
 use Rattle.dispatch.proofs.call.Statement.{statement}
 use Rattle.dispatch.proofs.call.Tie as tie
+
+-- what a call's numbers are by their types
+abbrev Holds : Call → Type 0
+Holds k = Fields (variants the-type) (spellss (the-type .parts) the-laws) (the-type .to k)
 
 enum-told : tie.Need-enum-told
 enum-told c = search needs
@@ -119,13 +130,13 @@ returns : tie.Need-returns
 unfolding step callOf areaOf fills lentAfter
 returns c =
     let a = c .before .before .before .before .before .args in
-    found (a .state) (a .time) (a .brought) (now (a .cmd)) (now (a .area)) (c .before .enum-told .given .1) (c .register .ensures .0) refl
+    found (a .state) (a .time) (a .brought) (now (a .cmd)) (now (a .area)) (c .before .enum-told .given .1) (c .register .ensures .0) refl tt
 
 returns-2 : tie.Need-returns-2
 unfolding step callOf areaOf fills lentAfter
 returns-2 c =
     let a = c .before .before .before .before .before .before .args in
-    found (a .state) (a .time) (a .brought) (now (a .cmd)) (now (a .area)) (c .before .before .call .given .1) (c .leave .ensures .0) refl
+    found (a .state) (a .time) (a .brought) (now (a .cmd)) (now (a .area)) (c .before .before .call .given .1) (c .leave .ensures .0) refl tt
 
 same-length : tie.Need-same-length
 same-length c = search needs
@@ -134,7 +145,7 @@ returns-3 : tie.Need-returns-3
 unfolding step callOf areaOf fills lentAfter
 returns-3 c =
     let a = c .before .before .before .before .before .before .before .before .before .args in
-    found (a .state) (a .time) (a .brought) (now (a .cmd)) (now (a .area)) (c .before .before .before .before .before .call2 .given .1) (c .before .before .ask .ensures .0) (c .before .before .ask .ensures .1 .0)
+    found (a .state) (a .time) (a .brought) (now (a .cmd)) (now (a .area)) (c .before .before .before .before .before .call2 .given .1) (c .before .before .ask .ensures .0) (c .before .before .ask .ensures .1 .0) tt
 
 same-length-2 : tie.Need-same-length-2
 same-length-2 c = search needs
@@ -143,91 +154,107 @@ returns-4 : tie.Need-returns-4
 unfolding step callOf areaOf fills lentAfter
 returns-4 c =
     let a = c .before .before .before .before .before .before .before .before .before .args in
-    found (a .state) (a .time) (a .brought) (now (a .cmd)) (now (a .area)) (c .before .before .before .before .before .call3 .given .1) (c .before .before .collect .ensures .0) (c .before .before .collect .ensures .1 .0)
+    found (a .state) (a .time) (a .brought) (now (a .cmd)) (now (a .area)) (c .before .before .before .before .before .call3 .given .1) (c .before .before .collect .ensures .0) (c .before .before .collect .ensures .1 .0) tt
 
 returns-5 : tie.Need-returns-5
 unfolding step callOf areaOf fills lentAfter
 returns-5 c =
     let a = c .before .before .before .before .before .before .args in
-    found (a .state) (a .time) (a .brought) (now (a .cmd)) (now (a .area)) (c .before .before .call4 .given .1) (c .give-up .ensures .0) refl
+    found (a .state) (a .time) (a .brought) (now (a .cmd)) (now (a .area)) (c .before .before .call4 .given .1) (c .give-up .ensures .0) refl tt
 
 returns-6 : tie.Need-returns-6
 unfolding step callOf areaOf fills lentAfter
 returns-6 c =
-    let a = c .before .before .before .before .before .before .args in
-    found (a .state) (a .time) (a .brought) (now (a .cmd)) (now (a .area)) (c .before .before .enum-told2 .given .1) (c .response2 .ensures .0) refl
+    let s = c .before .before .before .before .before .before in
+    let a = s .args in
+    let g = s .good .1 .1 .1 .0 .1 .1 .1 .0 .1 .1 in
+    let fit : FitResponse (a .brought .response)
+    = record {
+      six = simp length-map at (g .1 .0 .1 .0 .1);
+      small = record { each = λ i l. elem-fits-field w8 w8 (a .brought .response .pids) _ i (g .1 .0 .1 .1) tt .fits };
+      replies = simp length-map at (g .1 .1 .0 .1 .0 .1);
+    } in
+    found (a .state) (a .time) (a .brought) (now (a .cmd)) (now (a .area)) (c .before .before .enum-told2 .given .1) (c .response2 .ensures .0) refl fit
 
 returns-7 : tie.Need-returns-7
 unfolding step callOf areaOf fills lentAfter
 returns-7 c =
-    let a = c .before .before .before .before .before .before .args in
-    found (a .state) (a .time) (a .brought) (now (a .cmd)) (now (a .area)) (c .before .before .enum-told3 .given .1) (c .profile-pids-changed .ensures .0) refl
+    let s = c .before .before .before .before .before .before in
+    let a = s .args in
+    let fit = simp length-map at (s .good .1 .1 .1 .0 .1 .1 .0 .1 .1 .0 .1 .0 .1) in
+    found (a .state) (a .time) (a .brought) (now (a .cmd)) (now (a .area)) (c .before .before .enum-told3 .given .1) (c .profile-pids-changed .ensures .0) refl fit
 
 returns-8 : tie.Need-returns-8
 unfolding step callOf areaOf fills lentAfter
 returns-8 c =
-    let a = c .before .before .before .before .before .before .args in
-    found (a .state) (a .time) (a .brought) (now (a .cmd)) (now (a .area)) (c .before .before .call5 .given .1) (c .waiting .ensures .0) refl
+    let s = c .before .before .before .before .before .before in
+    let a = s .args in
+    let e = c .before .before .call5 .given .1 in
+    let fit = subst Holds e (owed the-type the-laws (a .call) _ (s .good .1 .1 .0)) .0 .1 in
+    found (a .state) (a .time) (a .brought) (now (a .cmd)) (now (a .area)) e (c .waiting .ensures .0) refl fit
 
 returns-9 : tie.Need-returns-9
 unfolding step callOf areaOf fills lentAfter
 returns-9 c =
-    let a = c .before .before .before .before .before .before .args in
-    found (a .state) (a .time) (a .brought) (now (a .cmd)) (now (a .area)) (c .before .before .call6 .given .1) (c .consumed .ensures .0) refl
+    let s = c .before .before .before .before .before .before in
+    let a = s .args in
+    let e = c .before .before .call6 .given .1 in
+    let fit = subst Holds e (owed the-type the-laws (a .call) _ (s .good .1 .1 .0)) .0 .1 in
+    found (a .state) (a .time) (a .brought) (now (a .cmd)) (now (a .area)) e (c .consumed .ensures .0) refl fit
 
 returns-10 : tie.Need-returns-10
 unfolding step callOf areaOf fills lentAfter
 returns-10 c =
     let a = c .before .before .before .before .before .args in
-    found (a .state) (a .time) (a .brought) (now (a .cmd)) (now (a .area)) (c .before .enum-told4 .given .1) (c .tick .ensures .0) refl
+    found (a .state) (a .time) (a .brought) (now (a .cmd)) (now (a .area)) (c .before .enum-told4 .given .1) (c .tick .ensures .0) refl tt
 
 returns-11 : tie.Need-returns-11
 unfolding step callOf areaOf fills lentAfter
 returns-11 c =
     let a = c .before .before .before .before .before .before .args in
-    found (a .state) (a .time) (a .brought) (now (a .cmd)) (now (a .area)) (c .before .before .call7 .given .1) (c .set-settings .ensures .0) refl
+    found (a .state) (a .time) (a .brought) (now (a .cmd)) (now (a .area)) (c .before .before .call7 .given .1) (c .set-settings .ensures .0) refl tt
 
 returns-12 : tie.Need-returns-12
 unfolding step callOf areaOf fills lentAfter
 returns-12 c =
     let a = c .before .before .before .before .before .args in
-    found (a .state) (a .time) (a .brought) (now (a .cmd)) (now (a .area)) (c .before .enum-told5 .given .1) (c .take-control .ensures .0) refl
+    found (a .state) (a .time) (a .brought) (now (a .cmd)) (now (a .area)) (c .before .enum-told5 .given .1) (c .take-control .ensures .0) refl tt
 
 returns-13 : tie.Need-returns-13
 unfolding step callOf areaOf fills lentAfter
 returns-13 c =
     let a = c .before .before .before .before .before .before .args in
-    found (a .state) (a .time) (a .brought) (now (a .cmd)) (now (a .area)) (c .before .before .enum-told6 .given .1) (c .connect .ensures .0) refl
+    found (a .state) (a .time) (a .brought) (now (a .cmd)) (now (a .area)) (c .before .before .enum-told6 .given .1) (c .connect .ensures .0) refl tt
 
 returns-14 : tie.Need-returns-14
 unfolding step callOf areaOf fills lentAfter
 returns-14 c =
     let a = c .before .before .before .before .before .args in
-    found (a .state) (a .time) (a .brought) (now (a .cmd)) (now (a .area)) (c .before .enum-told7 .given .1) (c .connect-failed .ensures .0) refl
+    found (a .state) (a .time) (a .brought) (now (a .cmd)) (now (a .area)) (c .before .enum-told7 .given .1) (c .connect-failed .ensures .0) refl tt
 
 returns-15 : tie.Need-returns-15
 unfolding step callOf areaOf fills lentAfter
 returns-15 c =
     let a = c .before .before .before .before .before .args in
-    found (a .state) (a .time) (a .brought) (now (a .cmd)) (now (a .area)) (c .before .enum-told8 .given .1) (c .reconnect-check .ensures .0) refl
+    found (a .state) (a .time) (a .brought) (now (a .cmd)) (now (a .area)) (c .before .enum-told8 .given .1) (c .reconnect-check .ensures .0) refl tt
 
 returns-16 : tie.Need-returns-16
 unfolding step callOf areaOf fills lentAfter
 returns-16 c =
     let a = c .before .before .before .before .before .args in
-    found (a .state) (a .time) (a .brought) (now (a .cmd)) (now (a .area)) (c .before .enum-told9 .given .1) (c .begin .ensures .0) refl
+    found (a .state) (a .time) (a .brought) (now (a .cmd)) (now (a .area)) (c .before .enum-told9 .given .1) (c .begin .ensures .0) refl tt
 
 returns-17 : tie.Need-returns-17
 unfolding step callOf areaOf fills lentAfter
 returns-17 c =
     let a = c .before .before .before .before .before .args in
-    found (a .state) (a .time) (a .brought) (now (a .cmd)) (now (a .area)) (c .before .enum-told10 .given .1) (c .next .ensures .0) refl
+    found (a .state) (a .time) (a .brought) (now (a .cmd)) (now (a .area)) (c .before .enum-told10 .given .1) (c .next .ensures .0) refl tt
 
 returns-18 : tie.Need-returns-18
 unfolding step callOf areaOf fills lentAfter
 returns-18 c =
     let a = c .before .before .before .before .before .before .args in
-    found (a .state) (a .time) (a .brought) (now (a .cmd)) (now (a .area)) (c .before .before .enum-told11 .given .1) (c .result .ensures .0) refl
+    found (a .state) (a .time) (a .brought) (now (a .cmd)) (now (a .area)) (c .before .before .enum-told11 .given .1) (c .result .ensures .0) refl tt
 
 pub call-spec : {M : Type 1} → statement M
 call-spec =
