@@ -1,10 +1,15 @@
 // Runs the box from text: a call a line in, an answer a line out, as history-format.md has them. `history` takes
 // a line apart, `dispatch` applies the call to the box, `history_answer` and `history_show` put the answer together.
+use config::Profiles;
 use config::Settings;
 use history::Line;
 use libc::STDIN_FILENO;
 use libc::STDOUT_FILENO;
+use lines::Fed;
 use lines::Reading;
+use obd2::Answer;
+use obd2::Answered;
+use obd2::Details;
 use obd2::State;
 use obd2::call::Brought;
 use obd2::call::Call;
@@ -23,11 +28,31 @@ const ANSWERS: usize = 65536;
 // No answer is longer.
 const ANSWER: usize = 16384;
 
-// The box, what the last call brought, and how many bytes of answers wait.
+// The box, and what stands beside it.
 struct Playing {
     state: State,
+    notes: Notes,
+}
+
+// What the last call brought, how many bytes of answers wait to be written, and the line that is being read.
+struct Notes {
     brought: Brought,
-    at: usize,
+    waiting: usize,
+    reading: Reading,
+}
+
+// What a line asks for.
+struct Taken {
+    notes: Notes,
+    task: Task,
+}
+
+// `Nothing` where no line has ended, or one that has its answer already.
+enum Task {
+    Nothing,
+    Show,
+    Start { time: u64, settings: Settings },
+    Call(Asked),
 }
 
 // A call, its time, how many bytes its command has and how many the area that is lent to it.
@@ -40,7 +65,6 @@ struct Asked {
 
 struct Turn {
     playing: Playing,
-    reading: Reading,
     more: bool,
 }
 
@@ -56,11 +80,12 @@ fn first() -> Playing {
     let profiles = brought.profiles;
     let started = manager_calls::start(u64::MAX, config::default_settings(), profiles);
     let state = started.state;
-    Playing {
-        state: state,
-        brought: brought,
-        at: 0,
-    }
+    let notes = Notes {
+        brought,
+        waiting: 0,
+        reading: lines::start(),
+    };
+    Playing { state, notes }
 }
 
 // How many PIDs the query has whose result is due.
@@ -79,152 +104,205 @@ fn delivered(call: Call, mut response: Response) -> Response {
     }
 }
 
-fn start(mut playing: Playing, time: u64, settings: Settings, out: &mut [u8]) -> Playing {
-    let profiles = playing.brought.profiles;
-    let response = playing.brought.response;
-    let none = delivered(Call::Tick, response);
-    let started = manager_calls::start(time, settings, profiles);
-    let state = started.state;
-    let answer = started.answer;
-    let details = started.details;
-    playing.state = state;
-    playing.at = history_answer::answer(out, playing.at, answer, details, none, b"");
-    playing
+// The start, with the profiles lent.
+fn lend_start(time: u64, settings: Settings, profiles: Profiles) -> Answered {
+    manager_calls::start(time, settings, profiles)
 }
 
-// Applies a call to the box, and answers it.
-fn apply(
-    mut playing: Playing,
+// A call, with the profiles lent.
+fn lend_call(
+    state: State,
     time: u64,
     call: Call,
+    profiles: Profiles,
+    brought: Brought,
     cmd: &[u8],
     area: &mut [u8],
-    out: &mut [u8],
-) -> Playing {
-    let state = playing.state;
-    let brought = playing.brought;
-    let answered = dispatch::call(state, time, call, brought, cmd, area);
-    let after = answered.state;
-    let answer = answered.answer;
-    let details = answered.details;
-    let response = delivered(call, brought.response);
-    playing.state = after;
-    playing.at = history_answer::answer(out, playing.at, answer, details, response, area);
-    playing
+) -> Answered {
+    dispatch::call(state, time, call, brought, cmd, area)
 }
 
-// The command's bytes and the area, as long as the line has them.
-fn lend(playing: Playing, asked: Asked, bytes: &[u8], area: &mut [u8], out: &mut [u8]) -> Playing {
+// Applies a call to the box. It is lent the bytes of its command and its area, as long as the line has them.
+fn apply(state: State, asked: Asked, brought: Brought, bytes: &[u8], area: &mut [u8]) -> Answered {
     let n = least(asked.cmd, bytes.len());
     let m = least(asked.area, area.len());
     let call = asked.call;
-    apply(playing, asked.time, call, &bytes[..n], &mut area[..m], out)
+    let profiles = brought.profiles;
+    lend_call(
+        state,
+        asked.time,
+        call,
+        profiles,
+        brought,
+        &bytes[..n],
+        &mut area[..m],
+    )
 }
 
-fn answer_call(
-    mut playing: Playing,
-    line: &[u8],
-    bytes: &mut [u8],
-    area: &mut [u8],
+// Puts an answer behind those that wait.
+fn tell(
+    mut notes: Notes,
+    call: Call,
+    answer: Answer,
+    details: Details,
+    area: &[u8],
     out: &mut [u8],
-) -> Playing {
-    let round = playing.state.poller.round;
-    let brought = playing.brought;
-    let parsed = history::parse(brought, line, poller::due(round), named(round), bytes);
-    let next = parsed.brought;
-    let what = parsed.line;
-    playing.brought = next;
-    match what {
-        Line::Bad => {
-            playing.at = history_answer::bad_line(out, playing.at);
-            playing
-        }
-        Line::Start { time, settings } => start(playing, time, settings, out),
-        Line::Show => {
-            let state = playing.state;
-            playing.at = history_show::show(out, playing.at, state);
-            playing
-        }
+) -> Notes {
+    let response = delivered(call, notes.brought.response);
+    notes.waiting = history_answer::answer(out, notes.waiting, answer, details, response, area);
+    notes
+}
+
+// Writes the answers that wait.
+fn flush(mut notes: Notes, out: &[u8]) -> Notes {
+    let n = least(notes.waiting, out.len());
+    io::write_all(STDOUT_FILENO, &out[..n]);
+    notes.waiting = 0;
+    notes
+}
+
+// Makes room for one more answer.
+fn room(notes: Notes, out: &[u8]) -> Notes {
+    if out.len() - least(notes.waiting, out.len()) < ANSWER {
+        return flush(notes, out);
+    }
+    notes
+}
+
+// The line is no call, and has its answer.
+fn bad(mut notes: Notes, out: &mut [u8]) -> Taken {
+    notes.waiting = history_answer::bad_line(out, notes.waiting);
+    Taken {
+        notes,
+        task: Task::Nothing,
+    }
+}
+
+// What a line asks for that was taken apart.
+fn task_of(notes: Notes, line: Line, out: &mut [u8]) -> Taken {
+    match line {
+        Line::Bad => bad(notes, out),
+        Line::Show => Taken {
+            notes,
+            task: Task::Show,
+        },
+        Line::Start { time, settings } => Taken {
+            notes,
+            task: Task::Start { time, settings },
+        },
         Line::Call {
             time,
             call,
             cmd,
-            area: size,
+            area,
         } => {
             let asked = Asked {
                 time,
                 call,
                 cmd,
-                area: size,
+                area,
             };
-            lend(playing, asked, bytes, area, out)
+            Taken {
+                notes,
+                task: Task::Call(asked),
+            }
         }
     }
 }
 
-// Writes the answers that wait.
-fn flush(mut playing: Playing, out: &[u8]) -> Playing {
-    let n = least(playing.at, out.len());
-    io::write_all(STDOUT_FILENO, &out[..n]);
-    playing.at = 0;
-    playing
-}
-
-fn answer_line(
-    mut playing: Playing,
+// What a line asks for that has ended. One that is too long is no call.
+fn read_line(
+    notes: Notes,
     line: &[u8],
     long: bool,
+    round: Round,
     bytes: &mut [u8],
-    area: &mut [u8],
     out: &mut [u8],
-) -> Playing {
+) -> Taken {
     if !lines::answers(line) {
-        return playing;
+        return Taken {
+            notes,
+            task: Task::Nothing,
+        };
     }
-    if out.len() - least(playing.at, out.len()) < ANSWER {
-        playing = flush(playing, out);
-    }
+    let mut notes = room(notes, out);
     if long {
-        playing.at = history_answer::bad_line(out, playing.at);
-        return playing;
+        return bad(notes, out);
     }
-    answer_call(playing, line, bytes, area, out)
+    let brought = notes.brought;
+    let parsed = history::parse(brought, line, poller::due(round), named(round), bytes);
+    let next = parsed.brought;
+    let what = parsed.line;
+    notes.brought = next;
+    task_of(notes, what, out)
 }
 
-// Answers each line that ends in a part of the input.
+// What is to be done once a part of the input was read.
+fn take_line(
+    mut notes: Notes,
+    fed: Fed,
+    round: Round,
+    line: &[u8],
+    bytes: &mut [u8],
+    out: &mut [u8],
+) -> Taken {
+    let read = fed.reading;
+    if !fed.ended {
+        notes.reading = read;
+        return Taken {
+            notes,
+            task: Task::Nothing,
+        };
+    }
+    notes.reading = lines::start();
+    let len = least(read.len, line.len());
+    read_line(notes, &line[..len], read.long, round, bytes, out)
+}
+
+// Answers each line that ends in a part of the input. The box changes hands here alone: each function that it passes
+// through costs a copy of it.
 fn answer_part(
     playing: Playing,
-    reading: Reading,
     input: &[u8],
     line: &mut [u8],
     bytes: &mut [u8],
     area: &mut [u8],
     out: &mut [u8],
-) -> Turn {
-    let mut playing = playing;
-    let mut reading = reading;
+) -> Playing {
+    let mut state = playing.state;
+    let mut notes = playing.notes;
     let mut at = 0;
     while at < input.len() {
-        let fed = lines::feed(reading, &input[at..], line);
+        let fed = lines::feed(notes.reading, &input[at..], line);
         at += fed.used;
-        reading = fed.reading;
-        if fed.ended {
-            let len = reading.len;
-            playing = answer_line(playing, &line[..len], reading.long, bytes, area, out);
-            reading = lines::start();
+        let taken = take_line(notes, fed, state.poller.round, line, bytes, out);
+        notes = taken.notes;
+        let task = taken.task;
+        match task {
+            Task::Nothing => {}
+            Task::Show => notes.waiting = history_show::show(out, notes.waiting, state),
+            Task::Start { time, settings } => {
+                let started = lend_start(time, settings, notes.brought.profiles);
+                state = started.state;
+                let answer = started.answer;
+                notes = tell(notes, Call::Tick, answer, started.details, b"", out);
+            }
+            Task::Call(asked) => {
+                let answered = apply(state, asked, notes.brought, bytes, area);
+                state = answered.state;
+                let answer = answered.answer;
+                let call = asked.call;
+                let size = least(asked.area, area.len());
+                notes = tell(notes, call, answer, answered.details, &area[..size], out);
+            }
         }
     }
-    playing = flush(playing, out);
-    Turn {
-        playing,
-        reading,
-        more: true,
-    }
+    notes = flush(notes, out);
+    Playing { state, notes }
 }
 
 fn read_part(
     playing: Playing,
-    reading: Reading,
     line: &mut [u8],
     bytes: &mut [u8],
     area: &mut [u8],
@@ -236,25 +314,25 @@ fn read_part(
     if n == 0 {
         return Turn {
             playing,
-            reading,
             more: false,
         };
     }
-    answer_part(playing, reading, &input[..n], line, bytes, area, out)
+    Turn {
+        playing: answer_part(playing, &input[..n], line, bytes, area, out),
+        more: true,
+    }
 }
 
 // A proved loop has to end, and nothing says that an input does: the turns are counted down from a number
 // that no run uses up. A line feed behind the input ends a last line that has none.
 fn run(line: &mut [u8], bytes: &mut [u8], area: &mut [u8], out: &mut [u8]) {
     let mut playing = first();
-    let mut reading = lines::start();
     let mut turns = u64::MAX;
     while turns > 0 {
-        let turn = read_part(playing, reading, line, bytes, area, out);
+        let turn = read_part(playing, line, bytes, area, out);
         playing = turn.playing;
-        reading = turn.reading;
         if !turn.more {
-            answer_part(playing, reading, b"\n", line, bytes, area, out);
+            answer_part(playing, b"\n", line, bytes, area, out);
             return;
         }
         turns -= 1;

@@ -1,39 +1,44 @@
-use Rattle.lines.specs.Laws.{used-some, used-within, fed-within}
+-- `replay::answer_part` is safe and ends: each turn uses a byte at least.
+use Rattle.lines.specs.Laws.{used-some, used-within}
 use lib.Seq.{length-take-le}
-use lib.ListN.{take, drop, length-take, length-drop}
-use Prim.Native.Nat.{_<_, _+_}
-use mathlib.Core.Path.{sym, _∙_}
-use lib.ListN.{length}
-use Prim.Native.Nat.{_≤_, _-_}
-use mathlib.Core.Path.{_≡_}
+use lib.ListN.{take, drop, length, length-take, length-drop}
+use Prim.Native.Nat.{_<_, _+_, _≤_, _-_}
+use mathlib.Core.Path.{_≡_, sym, _∙_}
 use native.Mathlib.Omega.{arith}
+use borrow.Author.Needs.{needs}
 use Rattle.replay.proofs.answer_part.Statement.{statement}
 use Rattle.replay.proofs.answer_part.Tie as tie
 
--- `replay::answer_part` is safe and ends: each turn uses a byte at least.
-
 abbrev Inv-loop : tie.InvT-loop
-Inv-loop input line₀ bytes₀ area₀ out₀ playing₀ reading₀ at₀ line bytes area out playing reading at =
+Inv-loop input line₀ bytes₀ area₀ out₀ state₀ notes₀ at₀ t23 line bytes area out state notes at =
     (at ≤ length input) × (length line ≡ length line₀) × (length bytes ≡ length bytes₀) × (length area ≡ length area₀) × (length out ≡ length out₀)
 
 abbrev μ-loop : tie.MeasureT-loop
-μ-loop input line₀ bytes₀ area₀ out₀ playing₀ reading₀ at₀ line bytes area out playing reading at = length input - at
+μ-loop input line₀ bytes₀ area₀ out₀ state₀ notes₀ at₀ t23 line bytes area out state notes at = length input - at
 
 -- some of what is left of the input is used, and no more
 used : (c : tie.After-feed Inv-loop μ-loop)
     → (0 < c .feed .result .used)
-    × (c .before .before .before .before .loop .at + c .feed .result .used ≤ length (c .before .before .before .before .before .before .before .before .before .before .args .input .now))
+    × (c .before .before .before .before .loop .at + c .feed .result .used ≤ length (c .before .before .before .before .before .before .before .before .before .before .before .before .args .input .now))
 used c =
     let a = c .before .before .before .before in
-    let input = a .before .before .before .before .before .before .args .input .now in
+    let input = a .before .before .before .before .before .before .before .before .args .input .now in
     let n : length (take (length input - a .loop .at) (drop (a .loop .at) input)) ≡ length input - a .loop .at
     = omega (arith, length-take (length input - a .loop .at) (drop (a .loop .at) input), length-drop (a .loop .at) input) in
     let u = used-within _ _ _ _ (c .feed .ensures .0) in
     (used-some _ _ _ _ (c .feed .ensures .0) (omega arith), omega arith)
 
--- the line lies within its memory
-within : (c : tie.After-feed Inv-loop μ-loop) → c .feed .result .reading .len ≤ length (c .feed .last .1 .1 .0)
-within c = rw (c .feed .kept .1 .1 .0) (fed-within _ _ _ _ (c .feed .ensures .0))
+-- what the turn of a line that is taken keeps
+kept : (c : tie.After-take-line Inv-loop μ-loop)
+    → (length (c .before .before .before .before .before .before .before .feed .last .1 .1 .0) ≡ length (c .before .before .before .before .before .before .before .before .before .before .before .before .before .before .before .before .before .before .before .args .line .now))
+    × (length (c .take-line .last .1 .1 .1 .1 .0) ≡ length (c .before .before .before .before .before .before .before .before .before .before .before .before .before .before .before .before .before .before .before .args .bytes .now))
+    × (length (c .before .before .before .before .before .before .before .before .before .before .before .loop .area) ≡ length (c .before .before .before .before .before .before .before .before .before .before .before .before .before .before .before .before .before .before .before .args .area .now))
+    × (length (c .take-line .last .1 .1 .1 .1 .1 .0) ≡ length (c .before .before .before .before .before .before .before .before .before .before .before .before .before .before .before .before .before .before .before .args .out .now))
+kept c =
+    let f = c .before .before .before .before .before .before .before in
+    let i = f .before .before .before .before .loop .inv in
+    let k = c .take-line .kept in
+    (f .feed .kept .1 .1 .0 ∙ i .1, k .1 .1 .1 .1 .0 ∙ i .2, i .3, k .1 .1 .1 .1 .1 .0 ∙ i .4)
 
 loop-holds : tie.Need-loop-holds Inv-loop μ-loop
 loop-holds c = omega arith
@@ -53,47 +58,91 @@ feed-requires c κs = tt
 add-at : tie.Need-add-at Inv-loop μ-loop
 add-at c =
     let f = c .before .before .before in
-    let n = f .before .before .before .before .before .before .before .before .before .before .good .1 .1 .0 in
+    let n = f .before .before .before .before .before .before .before .before .before .before .before .before .good .1 .0 in
     let u = used f in
     omega arith
 
-slice-reshare-prefix-answer-line : tie.Need-slice-reshare-prefix-answer-line Inv-loop μ-loop
-slice-reshare-prefix-answer-line c = within (c .before .before .before .before .before)
+take-line-requires : tie.Need-take-line-requires Inv-loop μ-loop
+take-line-requires c κs = tt
 
-slice-aggregate-answer-line : tie.Need-slice-aggregate-answer-line Inv-loop μ-loop
-slice-aggregate-answer-line c = sym (length-take-le _ _ (within (c .before .before .before .before .before .before)))
-
-answer-line-requires : tie.Need-answer-line-requires Inv-loop μ-loop
-answer-line-requires c κs = tt
-
-start-requires : tie.Need-start-requires Inv-loop μ-loop
-start-requires c κs = tt
+enum-told : tie.Need-enum-told Inv-loop μ-loop
+enum-told c = search needs
 
 loop-less : tie.Need-loop-less Inv-loop μ-loop
-loop-less c =
-    let f = c .before .before .before .before .before .before .before .before .before .before .before .before .before .before .before .before .before in
-    let u = used f in
-    omega arith
+loop-less c = let u = used (c .before .before .before .before .before .before .before .before .before .before .before .before .before .before) in omega arith
 
 loop-again : tie.Need-loop-again Inv-loop μ-loop
 loop-again c =
-    let l = c .before .before .before .before .before .before .before in
-    let f = l .before .before .before .before .before .before .before .before .before .before in
-    let u = used f in
-    let i = f .before .before .before .before .loop .inv in
-    let m = f .feed .kept .1 .1 .0 in
-    let k = l .answer-line .kept in
-    (omega arith, m ∙ i .1, k .1 .1 .1 .0 ∙ i .2, k .1 .1 .1 .1 .0 ∙ i .3, k .1 .1 .1 .1 .1 .0 ∙ i .4)
+    let u = used (c .before .before .before .before .before .before .before .before .before .before .before .before .before .before) in
+    let k = kept (c .before .before .before .before .before .before .before) in
+    (omega arith, k .0, k .1, k .2, k .3)
+
+enum-told-2 : tie.Need-enum-told-2 Inv-loop μ-loop
+enum-told-2 c = search needs
+
+show-requires : tie.Need-show-requires Inv-loop μ-loop
+show-requires c κs = tt
 
 loop-less-2 : tie.Need-loop-less-2 Inv-loop μ-loop
-loop-less-2 c = let u = used (c .before .before .before .before .before) in omega arith
+loop-less-2 c = let u = used (c .before .before .before .before .before .before .before .before .before .before .before .before .before .before .before .before .before .before) in omega arith
 
 loop-again-2 : tie.Need-loop-again-2 Inv-loop μ-loop
 loop-again-2 c =
-    let f = c .before .before .before .before .before in
-    let u = used f in
-    let i = f .before .before .before .before .loop .inv in
-    (omega arith, f .feed .kept .1 .1 .0 ∙ i .1, i .2, i .3, i .4)
+    let u = used (c .before .before .before .before .before .before .before .before .before .before .before .before .before .before .before .before .before .before) in
+    let k = kept (c .before .before .before .before .before .before .before .before .before .before .before) in
+    (omega arith, k .0, k .1, k .2, c .before .before .show .kept .0 ∙ k .3)
+
+enum-known-task : tie.Need-enum-known-task Inv-loop μ-loop
+enum-known-task c = search needs
+
+lend-start-requires : tie.Need-lend-start-requires Inv-loop μ-loop
+lend-start-requires c κs = tt
+
+slice-aggregate-tell : tie.Need-slice-aggregate-tell Inv-loop μ-loop
+slice-aggregate-tell c = search needs
+
+tell-requires : tie.Need-tell-requires Inv-loop μ-loop
+tell-requires c κs = tt
+
+loop-less-3 : tie.Need-loop-less-3 Inv-loop μ-loop
+loop-less-3 c = let u = used (c .before .before .before .before .before .before .before .before .before .before .before .before .before .before .before .before .before .before .before .before .before .before) in omega arith
+
+loop-again-3 : tie.Need-loop-again-3 Inv-loop μ-loop
+loop-again-3 c =
+    let u = used (c .before .before .before .before .before .before .before .before .before .before .before .before .before .before .before .before .before .before .before .before .before .before) in
+    let k = kept (c .before .before .before .before .before .before .before .before .before .before .before .before .before .before .before) in
+    (omega arith, k .0, k .1, k .2, c .before .before .tell .kept .1 .1 .1 .1 .1 .0 ∙ k .3)
+
+enum-known-task-2 : tie.Need-enum-known-task-2 Inv-loop μ-loop
+enum-known-task-2 c = search needs
+
+apply-requires : tie.Need-apply-requires Inv-loop μ-loop
+apply-requires c κs = tt
+
+least-requires : tie.Need-least-requires Inv-loop μ-loop
+least-requires c κs = tt
+
+slice-reshare-prefix-tell : tie.Need-slice-reshare-prefix-tell Inv-loop μ-loop
+slice-reshare-prefix-tell c =
+    let e = c .least .ensures in
+    omega arith
+
+slice-aggregate-tell-2 : tie.Need-slice-aggregate-tell-2 Inv-loop μ-loop
+slice-aggregate-tell-2 c =
+    let e = c .before .least .ensures in
+    sym (length-take-le _ _ (omega arith))
+
+tell-requires-2 : tie.Need-tell-requires-2 Inv-loop μ-loop
+tell-requires-2 c κs = tt
+
+loop-less-4 : tie.Need-loop-less-4 Inv-loop μ-loop
+loop-less-4 c = let u = used (c .before .before .before .before .before .before .before .before .before .before .before .before .before .before .before .before .before .before .before .before .before .before .before .before .before .before .before) in omega arith
+
+loop-again-4 : tie.Need-loop-again-4 Inv-loop μ-loop
+loop-again-4 c =
+    let u = used (c .before .before .before .before .before .before .before .before .before .before .before .before .before .before .before .before .before .before .before .before .before .before .before .before .before .before .before) in
+    let k = kept (c .before .before .before .before .before .before .before .before .before .before .before .before .before .before .before .before .before .before .before .before) in
+    (omega arith, k .0, k .1, c .before .before .before .before .before .before .before .before .before .apply .kept .1 .1 .1 .1 .0 ∙ k .2, c .before .before .tell2 .kept .1 .1 .1 .1 .1 .0 ∙ k .3)
 
 flush-requires : tie.Need-flush-requires Inv-loop μ-loop
 flush-requires c κs = tt
@@ -125,14 +174,28 @@ answer-part-spec =
     part-feed-end
     feed-requires
     add-at
-    slice-reshare-prefix-answer-line
-    slice-aggregate-answer-line
-    answer-line-requires
-    start-requires
+    take-line-requires
+    enum-told
     loop-less
     loop-again
+    enum-told-2
+    show-requires
     loop-less-2
     loop-again-2
+    enum-known-task
+    lend-start-requires
+    slice-aggregate-tell
+    tell-requires
+    loop-less-3
+    loop-again-3
+    enum-known-task-2
+    apply-requires
+    least-requires
+    slice-reshare-prefix-tell
+    slice-aggregate-tell-2
+    tell-requires-2
+    loop-less-4
+    loop-again-4
     flush-requires
     same-length
     same-length-2

@@ -6,18 +6,24 @@ use Rattle.replay.proofs.run.Statement.{statement}
 use Rattle.replay.proofs.run.Tie as tie
 
 abbrev Inv-loop : tie.InvT-loop
-Inv-loop line₀ bytes₀ area₀ out₀ playing₀ reading₀ turns₀ t9 line bytes area out playing reading turns =
+Inv-loop line₀ bytes₀ area₀ out₀ playing₀ turns₀ t8 line bytes area out playing turns =
     (length line ≡ length line₀) × (length bytes ≡ length bytes₀) × (length area ≡ length area₀) × (length out ≡ length out₀)
 
 abbrev μ-loop : tie.MeasureT-loop
-μ-loop line₀ bytes₀ area₀ out₀ playing₀ reading₀ turns₀ t9 line bytes area out playing reading turns =
-    turns
+μ-loop line₀ bytes₀ area₀ out₀ playing₀ turns₀ t8 line bytes area out playing turns = turns
+
+-- the lent memory is as long after a part of the input as it was
+kept : (c : tie.After-read-part Inv-loop μ-loop)
+    → let l = c .read-part .last in
+    let a = c .before .before .before .before .before .before .before .before .before .before .before .before .args in
+    (length (l .1 .0) ≡ length (a .line .now)) × (length (l .1 .1 .0) ≡ length (a .bytes .now)) × (length (l .1 .1 .1 .0) ≡ length (a .area .now)) × (length (l .1 .1 .1 .1 .0) ≡ length (a .out .now))
+kept c =
+    let i = c .before .before .before .before .before .before .loop .inv in
+    let k = c .read-part .kept in
+    (k .1 .0 ∙ i .0, k .1 .1 .0 ∙ i .1, k .1 .1 .1 .0 ∙ i .2, k .1 .1 .1 .1 .0 ∙ i .3)
 
 first-requires : tie.Need-first-requires Inv-loop μ-loop
 first-requires c κs = tt
-
-start-requires : tie.Need-start-requires Inv-loop μ-loop
-start-requires c κs = tt
 
 loop-holds : tie.Need-loop-holds Inv-loop μ-loop
 loop-holds c = omega arith
@@ -32,56 +38,28 @@ answer-part-requires : tie.Need-answer-part-requires Inv-loop μ-loop
 answer-part-requires c κs = tt
 
 same-length : tie.Need-same-length Inv-loop μ-loop
-same-length c =
-    let p = c .before .before .before .before .before .before .before .before in
-    let r = p .before .before .before .before .before .before .before .before .before .before .before .before .before .before .before .before .before .before in
-    let i = r .before .before .before .before .before .before .loop .inv .0 in
-    let a = p .answer-part .kept .1 .1 .1 .0 in
-    let b = r .read-part .kept .1 .1 .0 in
-    omega arith
+same-length c = let p = c .before .before .before .before .before .before .before .before in p .answer-part .kept .1 .1 .0 ∙ kept (p .before .before .before .before .before .before .before .before .before .before .before .before .before .before .before .before .before) .0
 
 same-length-2 : tie.Need-same-length-2 Inv-loop μ-loop
-same-length-2 c =
-    let p = c .before .before .before .before .before .before .before .before in
-    let r = p .before .before .before .before .before .before .before .before .before .before .before .before .before .before .before .before .before .before in
-    let i = r .before .before .before .before .before .before .loop .inv .1 in
-    let a = p .answer-part .kept .1 .1 .1 .1 .0 in
-    let b = r .read-part .kept .1 .1 .1 .0 in
-    omega arith
+same-length-2 c = let p = c .before .before .before .before .before .before .before .before in p .answer-part .kept .1 .1 .1 .0 ∙ kept (p .before .before .before .before .before .before .before .before .before .before .before .before .before .before .before .before .before) .1
 
 same-length-3 : tie.Need-same-length-3 Inv-loop μ-loop
-same-length-3 c =
-    let p = c .before .before .before .before .before .before .before .before in
-    let r = p .before .before .before .before .before .before .before .before .before .before .before .before .before .before .before .before .before .before in
-    let i = r .before .before .before .before .before .before .loop .inv .2 in
-    let a = p .answer-part .kept .1 .1 .1 .1 .1 .0 in
-    let b = r .read-part .kept .1 .1 .1 .1 .0 in
-    omega arith
+same-length-3 c = let p = c .before .before .before .before .before .before .before .before in p .answer-part .kept .1 .1 .1 .1 .0 ∙ kept (p .before .before .before .before .before .before .before .before .before .before .before .before .before .before .before .before .before) .2
 
 same-length-4 : tie.Need-same-length-4 Inv-loop μ-loop
-same-length-4 c =
-    let p = c .before .before .before .before .before .before .before .before in
-    let r = p .before .before .before .before .before .before .before .before .before .before .before .before .before .before .before .before .before .before in
-    let i = r .before .before .before .before .before .before .loop .inv .3 in
-    let a = p .answer-part .kept .1 .1 .1 .1 .1 .1 .0 in
-    let b = r .read-part .kept .1 .1 .1 .1 .1 .0 in
-    omega arith
+same-length-4 c = let p = c .before .before .before .before .before .before .before .before in p .answer-part .kept .1 .1 .1 .1 .1 .0 ∙ kept (p .before .before .before .before .before .before .before .before .before .before .before .before .before .before .before .before .before) .3
 
 returns : tie.Need-returns Inv-loop μ-loop
 returns c = tt
 
 sub-turns : tie.Need-sub-turns Inv-loop μ-loop
-sub-turns c = let n = c .before .before .before .before .before .before .before .before .before .before .before .before .before .before .before .before .before .loop-test .taken in omega arith
+sub-turns c = let n = c .before .before .before .before .before .before .before .before .before .before .before .before .before .before .before .before .loop-test .taken in omega arith
 
 loop-less : tie.Need-loop-less Inv-loop μ-loop
-loop-less c = let n = c .before .before .before .before .before .before .before .before .before .before .before .before .before .before .before .before .before .loop-test .taken in omega arith
+loop-less c = let n = c .before .before .before .before .before .before .before .before .before .before .before .before .before .before .before .before .loop-test .taken in omega arith
 
 loop-again : tie.Need-loop-again Inv-loop μ-loop
-loop-again c =
-    let r = c .before .before .before .before .before .before .before .before .before .before .before .before in
-    let i = r .before .before .before .before .before .before .loop .inv in
-    let k = r .read-part .kept in
-    (k .1 .1 .0 ∙ i .0, k .1 .1 .1 .0 ∙ i .1, k .1 .1 .1 .1 .0 ∙ i .2, k .1 .1 .1 .1 .1 .0 ∙ i .3)
+loop-again c = kept (c .before .before .before .before .before .before .before .before .before .before .before)
 
 same-length-5 : tie.Need-same-length-5 Inv-loop μ-loop
 same-length-5 c = omega arith
@@ -105,7 +83,6 @@ run-spec =
     Inv-loop
     μ-loop
     first-requires
-    start-requires
     loop-holds
     read-part-requires
     slice-aggregate-answer-part
