@@ -2,3 +2,4 @@ pub mod Pairs
 pub mod Laws
 pub mod Within
 pub mod Kept
+pub mod Room

@@ -1,7 +1,6 @@
 -- How many bytes a text stands for, where it does, is at most the room of the area.
 use mathlib.Core.Bool.{Bool, true, false}
 use mathlib.Core.List.{List, [], _∷_}
-use mathlib.Core.Path.{_≡_, sym, _∙_}
 use Prim.Native.Nat.{ℕ, _/_, _≤_}
 use lib.Dec.{eqb, leb}
 use lib.ListN.{length}
@@ -39,6 +38,3 @@ command-within room (b ∷ s) =
     cases _ (eqb b 39)
     (λ e. rw e (plain-within room s))
     (λ e. rw e (cases _ (eqb b 120) (λ f. rw f (bytes-within room s)) (λ f. rw f tt)))
-
-pub count-within : (room : ℕ) (s : List ℕ) (b : Bytes) (n : ℕ) → b ≡ commandOf room s → b ≡ Count n → n ≤ room
-count-within room s b n e f = rw (sym e ∙ f) at (command-within room s)

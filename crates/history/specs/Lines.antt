@@ -13,18 +13,18 @@ use Rattle.numeral.specs.declared.Number.the-variants as number
 use Rattle.link.specs.Rules.{noRanges, unknownFeatures}
 use Rattle.rounds.specs.declared.Kind.the-variants.{Replied}
 use Rattle.obd2.specs.declared.call.Brought.{Brought}
-use Rattle.history_tokens.specs.Items.{splitOf, itemsOf, split-first}
-use Rattle.history_tokens.specs.Session.{noneKnown}
-use Rattle.history_lists.specs.Lists.{noProfiles, noResponse, noLearnt}
-use Rattle.history.specs.Tokens.{firstOf, restOf, noneOf}
-use Rattle.history.specs.Words.{wordOf, show′}
-use Rattle.history.specs.Plain.{Tokens, aloneOf, leaveOf, giveUpOf, waitingOf, setOf, consumedOf, collectOf, askOf, askBytes}
-use Rattle.history.specs.Bringing.{parsed, bare, startOf, changedOf, answeredOf, connectOf, resultOf}
-use Rattle.history.specs.declared.word.Word.{Word}
-use Rattle.history.specs.declared.word.Word.the-variants as word
-use Rattle.history.specs.declared.Line.{Line}
-use Rattle.history.specs.declared.Line.the-variants as line
-use Rattle.history.specs.declared.Parsed.{Parsed}
+use Rattle.history_items.specs.Items.{splitOf, itemsOf, split-first}
+use Rattle.history_session.specs.Session.{noneKnown}
+use Rattle.history_lists.specs.Lists.{noProfiles, noResponse}
+use Rattle.history_dongle.specs.Lists.{noLearnt}
+use Rattle.history_items.specs.Tokens.{firstOf, restOf, noneOf}
+use Rattle.history_words.specs.Words.{wordOf, show′}
+use Rattle.history_calls.specs.Plain.{Tokens}
+use Rattle.history_calls.specs.Bringing.{parsed, bare}
+use Rattle.history_calls.specs.Timed.{timedOf, timedBytes}
+use Rattle.history_calls.specs.declared.Line.{Line}
+use Rattle.history_calls.specs.declared.Line.the-variants as line
+use Rattle.history_calls.specs.declared.Parsed.{Parsed}
 
 -- What no call has brought yet.
 unfoldable pub nothingBrought : Brought
@@ -35,42 +35,7 @@ nothingBrought = record {
   outcome = record { kind = Replied; features = unknownFeatures; learnt = noLearnt };
 }
 
--- A line with a time behind its word. `room` is the number of the lent bytes.
-module _ (due : Bool) (asked room : ℕ) (b : Brought) (t : ℕ) (ts : Tokens) where
-  unfoldable pub timedOf : Word → Parsed
-  timedOf (word.Bare c) = parsed b (aloneOf t c ts)
-  timedOf word.Outcome = resultOf due asked b t ts
-  timedOf word.Response = answeredOf b t ts
-  timedOf word.Ask = parsed b (askOf room t ts)
-  timedOf word.Collect = parsed b (collectOf t ts)
-  timedOf word.Waiting = parsed b (waitingOf t ts)
-  timedOf word.Consumed = parsed b (consumedOf t ts)
-  timedOf word.Leave = parsed b (leaveOf t ts)
-  timedOf word.GiveUp = parsed b (giveUpOf t ts)
-  timedOf word.Profiles = changedOf b t ts
-  timedOf word.Settings = parsed b (setOf t ts)
-  timedOf word.Connect = connectOf b t ts
-  timedOf word.Start = startOf b t ts
-  timedOf word.Other = bare b
-
--- What it leaves of the lent bytes: an ask's command stands there.
-unfoldable pub timedBytes : List ℕ → Tokens → Word → List ℕ
-timedBytes d ts (word.Bare c) = d
-timedBytes d ts word.Outcome = d
-timedBytes d ts word.Response = d
-timedBytes d ts word.Ask = askBytes d ts
-timedBytes d ts word.Collect = d
-timedBytes d ts word.Waiting = d
-timedBytes d ts word.Consumed = d
-timedBytes d ts word.Leave = d
-timedBytes d ts word.GiveUp = d
-timedBytes d ts word.Profiles = d
-timedBytes d ts word.Settings = d
-timedBytes d ts word.Connect = d
-timedBytes d ts word.Start = d
-timedBytes d ts word.Other = d
-
--- A line without one: `show`, "it is no call of the box".
+-- A line without a time: `show`, "it is no call of the box".
 unfoldable pub untimedOf : List ℕ → Tokens → Line
 untimedOf w ts = pick (sameOf w show′) (pick (noneOf ts) line.Show line.Bad) line.Bad
 

@@ -1,3 +1,2 @@
-pub mod Texts
-pub mod Laws
 pub mod Short
+pub mod Texts

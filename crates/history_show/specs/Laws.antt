@@ -11,7 +11,7 @@ use Rattle.base.specs.Choice.{pick, cases}
 use Rattle.control.specs.declared.outbox.Slot.{Slot}
 use Rattle.control_line.specs.Ring.{from, unused}
 use Rattle.pid_table.specs.declared.PidInfo.{PidInfo}
-use Rattle.writing.specs.Parted.{parted, commaText, noneText}
+use Rattle.writing_lists.specs.Parted.{parted, commaText, noneText}
 use Rattle.history_show.specs.Texts.{entryText, trackedFrom, messageText}
 
 -- What a PID of the table adds to those before it.

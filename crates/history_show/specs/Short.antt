@@ -20,8 +20,9 @@ use Rattle.pid_list.specs.declared.PidList.{PidList}
 use Rattle.pid_table.specs.declared.PidInfo.{PidInfo}
 use Rattle.writing.specs.Fill.{fillOf, fillEnd, fill-fits, end-fits}
 use Rattle.writing.specs.Number.{decimal-short}
-use Rattle.writing.specs.Parted.{parted}
-use Rattle.writing.specs.Short.{comma-short, none-short, pid-length, pids-short, each-short}
+use Rattle.writing_lists.specs.Parted.{parted}
+use Rattle.writing_pairs.specs.Short.{pid-length}
+use Rattle.writing_lists.specs.Short.{comma-short, none-short, pids-short, each-short}
 use Rattle.history_show.specs.Texts.{listText, pinText, entryText, trackedFrom, tableText, messageText, lineText, revsText, showText}
 
 list-short : (l : PidList) → length (listText l) ≤ 791

@@ -16,7 +16,8 @@ use Rattle.obd2.specs.declared.State.{State}
 use Rattle.pid_list.specs.Rules.{entries}
 use Rattle.pid_list.specs.declared.PidList.{PidList}
 use Rattle.pid_table.specs.declared.PidInfo.{PidInfo}
-use Rattle.writing.specs.Parted.{parted, pidText, pidsText}
+use Rattle.writing_pairs.specs.Pairs.{pidText}
+use Rattle.writing_lists.specs.Parted.{parted, pidsText}
 
 -- "`f` or `s` for its speed"
 unfoldable pub letterOf : PidPriority → ℕ

@@ -33,7 +33,7 @@ fn list(out: &mut [u8], at: usize, list: PidList) -> usize
     let first = writing::byte(out, at, b' ');
     let index = writing::number(out, first, list.index as u64);
     let next = writing::byte(out, index, b' ');
-    writing::pids(out, next, &pids[..n])
+    writing_lists::pids(out, next, &pids[..n])
 }
 
 // `+`, where a PID is pinned.
@@ -50,7 +50,7 @@ fn pin(out: &mut [u8], at: usize, pinned: bool) -> usize
 fn entry(out: &mut [u8], at: usize, pid: u8, info: PidInfo) -> usize
     ensures { λ r. ⌜ Wrote (now (out .entry)) at (entryText pid info) (now (out .exit)) r ⌝ }
 {
-    let named = writing::pair(out, at, pid);
+    let named = writing_pairs::pair(out, at, pid);
     let priority = info.priority;
     let next = writing::byte(out, named, letter(priority));
     pin(out, next, info.pinned)
@@ -61,7 +61,7 @@ fn tracked(out: &mut [u8], at: usize, more: bool, pid: u8, info: PidInfo) -> usi
     ensures { λ r. ⌜ Wrote (now (out .entry)) at (addedText more pid info) (now (out .exit)) r ⌝ }
 {
     if info.tracked {
-        let next = writing::comma(out, at, more);
+        let next = writing_lists::comma(out, at, more);
         return entry(out, next, pid, info);
     }
     at
@@ -87,7 +87,7 @@ fn table(out: &mut [u8], at: usize, table: [PidInfo; 256]) -> usize
         more = either(more, info.tracked);
         i += 1;
     }
-    writing::none(out, place, more)
+    writing_lists::none(out, place, more)
 }
 
 // A control message that waits.
@@ -96,11 +96,11 @@ fn message(out: &mut [u8], at: usize, message: DongleMessage) -> usize
 {
     match message {
         DongleMessage::SetPidPriority(pid, priority) => {
-            let next = writing::pair(out, at, pid);
+            let next = writing_pairs::pair(out, at, pid);
             writing::byte(out, next, letter(priority))
         }
         DongleMessage::RemovePid(pid) => {
-            let next = writing::pair(out, at, pid);
+            let next = writing_pairs::pair(out, at, pid);
             writing::byte(out, next, b'x')
         }
     }
@@ -125,12 +125,12 @@ fn line(out: &mut [u8], at: usize, line: ControlLine) -> usize
     while i < n {
         let slot = line.slots[(head + i) % 1024];
         let next = slot.message;
-        place = writing::comma(out, place, more);
+        place = writing_lists::comma(out, place, more);
         place = message(out, place, next);
         more = true;
         i += 1;
     }
-    writing::none(out, place, more)
+    writing_lists::none(out, place, more)
 }
 
 // The stored revs, `-` where none are known.

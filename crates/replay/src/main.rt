@@ -2,7 +2,7 @@
 // a line apart, `dispatch` applies the call to the box, `history_answer` and `history_show` put the answer together.
 use config::Profiles;
 use config::Settings;
-use history::Line;
+use history_calls::Line;
 use libc::STDIN_FILENO;
 use libc::STDOUT_FILENO;
 use lines::Fed;

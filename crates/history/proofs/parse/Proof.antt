@@ -6,7 +6,7 @@ use native.Mathlib.Omega.{arith}
 use lib.ListN.{length, take, drop, length-drop}
 use lib.Seq.{length-take-le, take-all}
 use Rattle.text.specs.Cut.{place-le}
-use Rattle.history_tokens.specs.Items.{itemsOf}
+use Rattle.history_items.specs.Items.{itemsOf}
 use Rattle.history.specs.Lines.{line-timed, line-untimed}
 use borrow.Author.Needs.{needs}
 use Rattle.history.proofs.parse.Statement.{statement}
@@ -58,9 +58,6 @@ enum-told c = search needs
 untimed-requires : tie.Need-untimed-requires
 untimed-requires c κs = search needs
 
-beside-requires : tie.Need-beside-requires
-beside-requires c κs = search needs
-
 same-length : tie.Need-same-length
 same-length c = search needs
 
@@ -75,12 +72,12 @@ returns c = let t = c .before .before in
     (rw (t .timed .ensures .0, g .before .of .ensures, g .behind .ensures) (l .0), rw (t .timed .ensures .1, g .before .of .ensures, g .behind .ensures) (l .1))
 
 returns-2 : tie.Need-returns-2
-returns-2 c = let r = c .before .before .before .before in
+returns-2 c = let r = c .before .before .before in
     let u = r .before .before .before .before in
     let s = u .before .before .before .args in
     let e = rw (r .before .first .ensures) at (r .read .ensures) in
-    let l = line-untimed (s .due) (s .asked) (length (s .bytes .now)) (s .brought) (s .line .now) (s .bytes .now) _ (u .until .ensures) _ refl _ (behind-is (s .line .now) (u .until .result)) (sym e ∙ c .before .before .enum-told .given .1) in
-    (rw (c .beside .ensures, c .before .untimed .ensures) (l .0), l .1)
+    let l = line-untimed (s .due) (s .asked) (length (s .bytes .now)) (s .brought) (s .line .now) (s .bytes .now) _ (u .until .ensures) _ refl _ (behind-is (s .line .now) (u .until .result)) (sym e ∙ c .before .enum-told .given .1) in
+    (rw (c .untimed .ensures) (l .0), l .1)
 
 pub parse-spec : {M : Type 1} → statement M
 parse-spec =
@@ -99,7 +96,6 @@ parse-spec =
     timed-requires
     enum-told
     untimed-requires
-    beside-requires
     same-length
     returns
     returns-2)

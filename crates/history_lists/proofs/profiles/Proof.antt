@@ -4,7 +4,7 @@ use Prim.Native.Nat.{_≤_, _-_}
 use native.Mathlib.Omega.{arith}
 use mathlib.Core.Path.{_≡_, sym, _∙_}
 use borrow.Author.Needs.{needs}
-use Rattle.history_tokens.specs.Items.{itemsOf, end-bounds}
+use Rattle.history_items.specs.Items.{itemsOf, end-bounds}
 use Rattle.history_lists.specs.Lists.{profilesFrom, profilesOf, profiles-end, profiles-turn, profiles-stop}
 use Rattle.history_lists.proofs.profiles.Statement.{statement}
 use Rattle.history_lists.proofs.profiles.Tie as tie

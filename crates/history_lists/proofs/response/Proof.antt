@@ -4,7 +4,7 @@ use Prim.Native.Nat.{_≤_, _-_}
 use native.Mathlib.Omega.{arith}
 use mathlib.Core.Path.{_≡_, sym, _∙_}
 use borrow.Author.Tests.{not-true, not-false}
-use Rattle.history_tokens.specs.Items.{itemsOf, end-bounds}
+use Rattle.history_items.specs.Items.{itemsOf, end-bounds}
 use Rattle.history_lists.specs.Lists.{responseFrom, responseOf, response-end, response-turn, response-stop}
 use Rattle.history_lists.proofs.response.Statement.{statement}
 use Rattle.history_lists.proofs.response.Tie as tie

@@ -2,7 +2,7 @@
 use Rattle.writing.specs.Fill.{Left, left-all, left-next, left-last, wrote-then}
 use Rattle.history_show.specs.Texts.{messageText, lineText}
 use Rattle.history_show.specs.Laws.{line-next, line-end}
-use Rattle.writing.specs.Parted.{parted}
+use Rattle.writing_lists.specs.Parted.{parted}
 use Rattle.control_line.specs.Ring.{from}
 use mathlib.Core.Bool.{false}
 use mathlib.Core.List.{map}

@@ -2,7 +2,7 @@
 use Rattle.writing.specs.Fill.{Left, left-all, left-next, left-last, wrote-then}
 use Rattle.history_show.specs.Texts.{trackedFrom, tableText}
 use Rattle.history_show.specs.Laws.{table-next, table-end}
-use Rattle.writing.specs.Parted.{parted}
+use Rattle.writing_lists.specs.Parted.{parted}
 use Rattle.pid_table.specs.Entry.{nobody}
 use mathlib.Core.Bool.{false}
 use Prim.Native.Nat.{_≤_, _-_}

@@ -1,0 +1,55 @@
+-- `history_calls::bringing::connect` meets its contract.
+use mathlib.Core.Path.{sym, _∙_}
+use Rattle.history_calls.specs.Bringing.{connect-bad, connect-made, connect-failed}
+use borrow.Author.Needs.{needs}
+use Rattle.history_calls.proofs.bringing.connect.Statement.{statement}
+use Rattle.history_calls.proofs.bringing.connect.Tie as tie
+
+first-requires : tie.Need-first-requires
+first-requires c κs = search needs
+
+flag-requires : tie.Need-flag-requires
+flag-requires c κs = search needs
+
+enum-known-made : tie.Need-enum-known-made
+enum-known-made c = search needs
+
+enum-told : tie.Need-enum-told
+enum-told c = search needs
+
+bad-requires : tie.Need-bad-requires
+bad-requires c κs = search needs
+
+returns : tie.Need-returns
+returns c = let e = rw (c .before .before .before .before .first .ensures) at (c .before .before .before .flag .ensures) in rw (c .bad .ensures) (connect-bad _ _ _ (sym e ∙ c .before .enum-told .given .1))
+
+behind-requires : tie.Need-behind-requires
+behind-requires c κs = search needs
+
+connected-requires : tie.Need-connected-requires
+connected-requires c κs = search needs
+
+returns-2 : tie.Need-returns-2
+returns-2 c = let e = rw (c .before .before .before .before .before .before .before .first .ensures) at (c .before .before .before .before .before .before .flag .ensures) in rw (c .connected .ensures, c .before .before .behind .ensures) (connect-made _ _ _ _ (sym e ∙ c .before .before .before .before .made .given .1) (c .before .if1 .taken))
+
+alone-requires : tie.Need-alone-requires
+alone-requires c κs = search needs
+
+returns-3 : tie.Need-returns-3
+returns-3 c = let e = rw (c .before .before .before .before .before .before .before .first .ensures) at (c .before .before .before .before .before .before .flag .ensures) in rw (c .alone .ensures, c .before .before .behind .ensures) (connect-failed _ _ _ _ (sym e ∙ c .before .before .before .before .made .given .1) (c .before .if1 .left))
+
+pub connect-spec : {M : Type 1} → statement M
+connect-spec =
+    tie.close
+    (tie.spec
+    first-requires
+    flag-requires
+    enum-known-made
+    enum-told
+    bad-requires
+    returns
+    behind-requires
+    connected-requires
+    returns-2
+    alone-requires
+    returns-3)
