@@ -1,5 +1,6 @@
 // Runs the box from text: a call a line in, an answer a line out, as history-format.md has them. `history` takes
 // a line apart, `dispatch` applies the call to the box, `history_answer` and `history_show` put the answer together.
+use config::Profile;
 use config::Profiles;
 use config::Settings;
 use history_calls::Line;
@@ -16,12 +17,15 @@ use obd2::call::Call;
 use poller::Round;
 use reply::Response;
 ghost use mathlib.Core.Path.{_≡_};
-ghost use Prim.Native.Nat.{min};
+ghost use Prim.Native.Nat.{_≤_, min};
 
 // The longest line that is taken, the largest lent area, and the room for answers that wait to be written.
 const LONGEST: usize = 8191;
 
 const AREA: usize = 4096;
+
+// The places of a list of profiles that is lent.
+const LISTED: usize = 17;
 
 const ANSWERS: usize = 65536;
 
@@ -78,7 +82,7 @@ fn least(a: usize, b: usize) -> usize
 fn first() -> Playing {
     let brought = history::nothing();
     let profiles = brought.profiles;
-    let started = manager_calls::start(u64::MAX, config::default_settings(), profiles);
+    let started = lend_start(u64::MAX, config::default_settings(), profiles);
     let state = started.state;
     let notes = Notes {
         brought,
@@ -104,9 +108,36 @@ fn delivered(call: Call, mut response: Response) -> Response {
     }
 }
 
+// The profiles that a line has, as a list that can be lent: one place more than the box takes, for a line with too many.
+fn listed(profiles: Profiles) -> [Profile; LISTED] {
+    let none = Profile {
+        kind: 0,
+        pid: 0,
+        priority: 0,
+        limited: false,
+        threshold: 0,
+        enabled: false,
+    };
+    let mut list = [none; LISTED];
+    let mut i = 0;
+    while i < 16 {
+        list[i] = profiles.list[i];
+        i += 1;
+    }
+    list
+}
+
+fn listed_count(profiles: Profiles) -> usize
+    ensures { λ r. ⌜ r ≤ 17 ⌝ }
+{
+    least(profiles.count as usize, LISTED)
+}
+
 // The start, with the profiles lent.
 fn lend_start(time: u64, settings: Settings, profiles: Profiles) -> Answered {
-    manager_calls::start(time, settings, profiles)
+    let list = listed(profiles);
+    let n = listed_count(profiles);
+    lent_calls::start(time, settings, &list[..n])
 }
 
 // A call, with the profiles lent.
@@ -119,7 +150,9 @@ fn lend_call(
     cmd: &[u8],
     area: &mut [u8],
 ) -> Answered {
-    dispatch::call(state, time, call, brought, cmd, area)
+    let list = listed(profiles);
+    let n = listed_count(profiles);
+    lent_calls::call(state, time, call, &list[..n], brought, cmd, area)
 }
 
 // Applies a call to the box. It is lent the bytes of its command and its area, as long as the line has them.
