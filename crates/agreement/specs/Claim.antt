@@ -10,6 +10,7 @@ use mathlib.Core.Path.{_≡_}
 use Prim.Native.Nat.{ℕ, zero, suc, _≤_}
 use lib.ListN.{length, replicate}
 use Rattle.base.specs.Choice.{pick}
+use Rattle.config.specs.Blank.{noProfiles}
 use Rattle.config.specs.Defaults.{defaultSettings}
 use Rattle.config.specs.declared.Profiles.{Profiles}
 use Rattle.config.specs.declared.Settings.{Settings}
@@ -27,7 +28,6 @@ use Rattle.triggers.specs.Rules.{switchOf}
 use Rattle.obd2.specs.Calls.{startOf}
 use Rattle.obd2.specs.History.{Call, register, leave, ask, collect, giveUp, response, profilePidsChanged, waiting as waits, consumed, tick, settings, takeControl, connect, connectFailed, reconnectCheck, begin, next, result, Calls, step, run, Event, happened, acceptedBy, accepted}
 use Rattle.obd2.specs.Refusals.{roundOpen, resultDue}
-use Rattle.obd2.specs.State.{noProfiles}
 use Rattle.obd2.specs.declared.Answer.{Answer}
 use Rattle.obd2.specs.declared.State.{State}
 

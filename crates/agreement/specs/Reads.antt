@@ -25,7 +25,7 @@ use Rattle.reply.specs.declared.Response.{Response}
 use Rattle.obd2.specs.Calls.{settled, takenBy, startOf, registerOf, leaveCallOf, askOf, collectOf, giveUpOf, respondOf, profilesOf, waitingOf, consumedOf, tickCallOf, settingsOf, takeControlOf, connectOf, connectFailedOf, reconnectCheckOf, beginOf, nextOf, resultOf}
 use Rattle.obd2.specs.History.{Call, register, leave, ask, collect, giveUp, response, profilePidsChanged, waiting as waits, consumed, tick, settings, takeControl, connect, connectFailed, reconnectCheck, begin, next, result, step, run, Event, eventOf, happened, acceptedBy, accepted}
 use Rattle.obd2.specs.Refusals.{startRefusal, registerRefusal, askRefusal, collectRefusal, giveUpRefusal, responseRefusal, profilesRefusal, consumedRefusal, eventRefusal, settingsRefusal, closedRefusal, connectRefusal, nextRefusal, resultRefusal}
-use Rattle.obd2.specs.State.{managed, started, noProfiles, termsOf, withLine}
+use Rattle.obd2.specs.State.{managed, started, termsOf, withLine}
 use Rattle.obd2.specs.declared.State.{State}
 use Rattle.obd2.specs.Accepted.{response-fit}
 use Rattle.agreement.specs.Claim.{Reading, switched, readCall, read, readingAt, readStart}

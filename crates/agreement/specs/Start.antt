@@ -8,6 +8,7 @@ use lib.Dec.{ltb, eqb}
 use lib.ListN.{length}
 use borrow.Author.Tests.{le-ltb}
 use Rattle.base.specs.Choice.{cases}
+use Rattle.config.specs.Blank.{noProfiles}
 use Rattle.config.specs.Defaults.{defaultSettings}
 use Rattle.config.specs.declared.Profiles.{Profiles}
 use Rattle.config.specs.declared.Settings.{Settings}
@@ -23,7 +24,7 @@ use Rattle.pid_list.specs.Rules.{emptyList}
 use Rattle.poller.specs.State.{startOf as startPoller}
 use Rattle.obd2.specs.Calls.{startOf as startBox}
 use Rattle.obd2.specs.Refusals.{startRefusal}
-use Rattle.obd2.specs.State.{started, noProfiles}
+use Rattle.obd2.specs.State.{started}
 use Rattle.agreement.specs.Agreed.{Agreed, managed-agreed}
 use Rattle.agreement.specs.Steps.{Good}
 

@@ -18,7 +18,7 @@ use Rattle.control_line.specs.declared.Taken.the-variants.{Message, Nothing}
 use Rattle.obd2.specs.Calls.{settled, takenBy, startOf, registerOf, leaveCallOf, askOf, collectOf, giveUpOf, respondOf, profilesOf, waitingOf, consumedOf, tickCallOf, settingsOf, takeControlOf, connectOf, connectFailedOf, reconnectCheckOf, beginOf, nextOf, resultOf}
 use Rattle.obd2.specs.History.{Call, register, leave, ask, collect, giveUp, response, profilePidsChanged, waiting, consumed, tick, settings, takeControl, connect, connectFailed, reconnectCheck, begin, next, result, step, run}
 use Rattle.obd2.specs.Refusals.{Rows, badTime, startRefusal, registerRefusal, askRefusal, collectRefusal, giveUpRefusal, responseRefusal, profilesRefusal, consumedRefusal, eventRefusal, settingsRefusal, closedRefusal, connectRefusal, nextRefusal, resultRefusal}
-use Rattle.obd2.specs.State.{managed, withLine, started, noProfiles}
+use Rattle.obd2.specs.State.{managed, withLine, started}
 use Rattle.obd2.specs.declared.State.{State}
 use Rattle.obd2.specs.declared.Answered.{Answered}
 use Rattle.obd2.specs.Accepted.{top, good-time}

@@ -1,6 +1,6 @@
 -- A call's refusal, written as document 01's table is: rows of a number and its condition, the numbers rising.
 use mathlib.Core.Bool.{Bool, true, false}
-use mathlib.Core.List.{List, [], _∷_}
+use mathlib.Core.List.{List, [], _∷_, _++_}
 use mathlib.Core.Path.{_≡_, refl}
 use Prim.Native.Nat.{ℕ}
 use Rattle.base.specs.Choice.{pick, cases}
@@ -31,3 +31,9 @@ module _ (n : ℕ) (b : Bool) (rs : List (ℕ × Bool)) where
 pub first-none : firstOf [] ≡ 0
 unfolding firstOf
 first-none = refl
+
+-- Where one of the rows in front holds, those behind do not matter.
+pub first-among : (rs qs : List (ℕ × Bool)) → (firstOf rs ≡ 0 → ⊥) → firstOf (rs ++ qs) ≡ firstOf rs
+unfolding firstOf
+first-among [] qs h = absurd (h first-none)
+first-among (r ∷ rs) qs h = cases _ (r .1) (λ e. rw e) (λ e. rw e (first-among rs qs (rw e at h)))

@@ -1,2 +1,3 @@
+pub mod Blank
 pub mod Defaults
 pub mod InForce

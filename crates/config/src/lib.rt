@@ -1,5 +1,6 @@
 // Settings, profiles and priorities, with the defaults of the Rust's config.rs.
 ghost use mathlib.Core.Path.{_≡_};
+ghost use Rattle.config.specs.Blank.{noProfiles};
 ghost use Rattle.config.specs.Defaults.{defaultSettings};
 
 // How often a PID is polled: from the fast list or from the slow one.
@@ -60,5 +61,22 @@ pub fn default_settings() -> Settings
         removal: 4000,
         multi: false,
         maxpids: 6,
+    }
+}
+
+pub fn no_profiles() -> Profiles
+    ensures { λ r. ⌜ r ≡ noProfiles ⌝ }
+{
+    let none = Profile {
+        kind: 0,
+        pid: 0,
+        priority: 0,
+        limited: false,
+        threshold: 0,
+        enabled: false,
+    };
+    Profiles {
+        list: [none; 16],
+        count: 0,
     }
 }

@@ -24,9 +24,9 @@ pub fn call(
     match call {
         Call::Register => desk_calls::register(state, time),
         Call::Leave(number) => desk_calls::leave(state, time, number),
-        Call::Ask(number) => desk_calls::ask(state, time, number, cmd, area),
-        Call::Collect(number) => desk_calls::collect(state, time, number, area),
-        Call::GiveUp(number) => desk_calls::give_up(state, time, number),
+        Call::Ask(number) => cache_calls::ask(state, time, number, cmd, area),
+        Call::Collect(number) => cache_calls::collect(state, time, number, area),
+        Call::GiveUp(number) => cache_calls::give_up(state, time, number),
         Call::Response => {
             let response = brought.response;
             desk_calls::response(state, time, response)
@@ -38,19 +38,19 @@ pub fn call(
         Call::Waiting(pid) => manager_calls::waiting(state, time, pid),
         Call::Consumed(pid, wait) => manager_calls::consumed(state, time, pid, wait),
         Call::Tick => manager_calls::tick(state, time),
-        Call::SetSettings(settings) => manager_calls::set_settings(state, time, settings),
+        Call::SetSettings(settings) => setup_calls::set_settings(state, time, settings),
         Call::TakeControl => poller_calls::take_control(state, time),
         Call::Connect => {
             let session = brought.session;
-            poller_calls::connect(state, time, session)
+            link_calls::connect(state, time, session)
         }
-        Call::ConnectFailed => poller_calls::connect_failed(state, time),
-        Call::ReconnectCheck => poller_calls::reconnect_check(state, time),
-        Call::Begin => poller_calls::begin(state, time),
-        Call::Next => poller_calls::next(state, time),
+        Call::ConnectFailed => link_calls::connect_failed(state, time),
+        Call::ReconnectCheck => link_calls::reconnect_check(state, time),
+        Call::Begin => round_calls::begin(state, time),
+        Call::Next => round_calls::next(state, time),
         Call::Result => {
             let outcome = brought.outcome;
-            poller_calls::result(state, time, outcome)
+            round_calls::result(state, time, outcome)
         }
     }
 }

@@ -10,12 +10,13 @@ use Rattle.text.specs.Cut.{placeOf, sameOf}
 use Rattle.numeral.specs.Decimal.{numberOf}
 use Rattle.numeral.specs.declared.Number.{Number}
 use Rattle.numeral.specs.declared.Number.the-variants as number
+use Rattle.config.specs.Blank.{noProfiles}
 use Rattle.link.specs.Rules.{noRanges, unknownFeatures}
 use Rattle.rounds.specs.declared.Kind.the-variants.{Replied}
 use Rattle.obd2.specs.declared.call.Brought.{Brought}
 use Rattle.history_items.specs.Items.{splitOf, itemsOf, split-first}
 use Rattle.history_session.specs.Session.{noneKnown}
-use Rattle.history_lists.specs.Lists.{noProfiles, noResponse}
+use Rattle.history_lists.specs.Lists.{noResponse}
 use Rattle.history_dongle.specs.Lists.{noLearnt}
 use Rattle.history_items.specs.Tokens.{firstOf, restOf, noneOf}
 use Rattle.history_words.specs.Words.{wordOf, show′}

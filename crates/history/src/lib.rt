@@ -26,7 +26,7 @@ pub fn nothing() -> Brought
         multi: FeatureSupport::Unknown,
     };
     Brought {
-        profiles: history_lists::no_profiles(),
+        profiles: config::no_profiles(),
         response: history_lists::no_response(),
         session: Session {
             features,

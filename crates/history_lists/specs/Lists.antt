@@ -8,6 +8,7 @@ use lib.Dec.{ltb}
 use lib.ListN.{length, take, drop, set, replicate}
 use borrow.Author.Tests.{lt-ltb, le-ltb}
 use Rattle.base.specs.Choice.{pick}
+use Rattle.config.specs.Blank.{noProfiles}
 use Rattle.config.specs.declared.Profile.{Profile}
 use Rattle.config.specs.declared.Profiles.{Profiles}
 use Rattle.reply.specs.Rules.{emptyReply}
@@ -23,9 +24,6 @@ use Rattle.history_lists.specs.declared.ProfilesRead.{ProfilesRead}
 use Rattle.history_lists.specs.declared.ResponseRead.{ResponseRead}
 
 -- What no call has brought.
-unfoldable pub noProfiles : Profiles
-noProfiles = record { list = replicate 16 (record { kind = 0; pid = 0; priority = 0; limited = false; threshold = 0; enabled = false }); count = 0 }
-
 unfoldable pub noResponse : Response
 noResponse = record { count = 0; pids = replicate 6 0; replies = replicate 6 emptyReply }
 

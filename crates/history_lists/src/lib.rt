@@ -8,7 +8,7 @@ use reply::Reply;
 use reply::Response;
 ghost use mathlib.Core.Path.{_≡_};
 ghost use Rattle.history_items.specs.Items.{itemsOf};
-ghost use Rattle.history_lists.specs.Lists.{noProfiles, noResponse, profileOnto, replyOnto, profilesOf, responseOf};
+ghost use Rattle.history_lists.specs.Lists.{noResponse, profileOnto, replyOnto, profilesOf, responseOf};
 
 pub struct ProfilesRead {
     pub profiles: Profiles,
@@ -18,23 +18,6 @@ pub struct ProfilesRead {
 pub struct ResponseRead {
     pub response: Response,
     pub good: bool,
-}
-
-pub fn no_profiles() -> Profiles
-    ensures { λ r. ⌜ r ≡ noProfiles ⌝ }
-{
-    let none = Profile {
-        kind: 0,
-        pid: 0,
-        priority: 0,
-        limited: false,
-        threshold: 0,
-        enabled: false,
-    };
-    Profiles {
-        list: [none; 16],
-        count: 0,
-    }
 }
 
 pub fn no_response() -> Response
@@ -78,14 +61,14 @@ fn add_reply(mut response: Response, pid: u8, r: Reply) -> Response
 pub fn profiles(s: &[u8]) -> ProfilesRead
     ensures { λ r. ⌜ r ≡ profilesOf (itemsOf 32 (now (s .entry))) ⌝ }
 {
-    let mut profiles = no_profiles();
+    let mut profiles = config::no_profiles();
     let mut at = 0;
     while at < s.len() {
         let next = at + 1;
         let end = history_items::end(s, at, b' ');
         let ProfileToken::Value(p) = history_wishes::profile(&s[next..end]) else {
             return ProfilesRead {
-                profiles: no_profiles(),
+                profiles: config::no_profiles(),
                 good: false,
             };
         };

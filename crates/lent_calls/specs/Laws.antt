@@ -1,19 +1,20 @@
 -- Refusal 2, "over 16 profiles", of a start and of a ProfilePidsChanged that is lent more, at a time that is taken.
 use mathlib.Core.Bool.{Bool, true, false, _||_}
 use mathlib.Core.List.{List, []}
-use mathlib.Core.Path.{_≡_, refl}
+use mathlib.Core.Path.{_≡_, refl, sym}
 use Prim.Native.Nat.{ℕ, _<_}
 use lib.Dec.{ltb}
 use lib.ListN.{length}
+use Rattle.config.specs.Blank.{noProfiles}
 use Rattle.config.specs.Defaults.{defaultSettings}
 use Rattle.config.specs.declared.Profile.{Profile}
 use Rattle.config.specs.declared.Settings.{Settings}
 use Rattle.dispatch.specs.Dispatch.{callOf}
-use Rattle.manager_calls.specs.Cases.{at-second}
+use Rattle.obd2.specs.Answers.{settled-here, settled-next}
 use Rattle.obd2.specs.Calls.{startOf, profilesOf}
 use Rattle.obd2.specs.History.{step}
 use Rattle.obd2.specs.Refusals.{badTime, startRefusal, profilesRefusal}
-use Rattle.obd2.specs.State.{answered, noDetails, noProfiles, started}
+use Rattle.obd2.specs.State.{answered, noDetails, started}
 use Rattle.obd2.specs.declared.Answer.the-variants.{Refused, Started}
 use Rattle.obd2.specs.declared.State.{State}
 use Rattle.obd2.specs.declared.call.Brought.{Brought}
@@ -31,9 +32,11 @@ module _ (ps : List Profile) (longer : 16 < length ps) where
   pub start-longer : (t : ℕ) (st : Settings) → ltb 16777215999 t ≡ false → startOf t st (copiedOf ps) ≡ answered (started 0 defaultSettings noProfiles) (Refused 2) noDetails
   unfolding startOf startRefusal
   start-longer t st e =
-      at-second _ (answered (started t st (copiedOf ps)) Started noDetails) _ 2 (unknownMode (st .mode) || badProfiles (copiedOf ps)) [] e (either (unknownMode (st .mode)) _ (longer-refused ps longer)) refl
+      let s = started 0 defaultSettings noProfiles in
+      let f = either (unknownMode (st .mode)) _ (longer-refused ps longer) in
+      sym (settled-next s (answered (started t st (copiedOf ps)) Started noDetails) 1 _ e (settled-here s _ 2 [] f refl refl))
 
   pub changed-longer : (s : State) (t : ℕ) (b : Brought) (cmd area : List ℕ) → badTime s t ≡ false
       → step s (callOf t ProfilePidsChanged (bringing b (copiedOf ps)) cmd area) ≡ answered s (Refused 2) noDetails
   unfolding step callOf profilesOf profilesRefusal
-  changed-longer s t b cmd area e = at-second _ _ _ 2 _ _ e (longer-refused ps longer) refl
+  changed-longer s t b cmd area e = sym (settled-next s _ 1 _ e (settled-here s _ 2 _ (longer-refused ps longer) refl refl))

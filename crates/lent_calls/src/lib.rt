@@ -22,7 +22,7 @@ pub fn start(time: u64, settings: Settings, profiles: &[Profile]) -> Answered
     ensures { λ r. ⌜ numberIn (r .answer) ≡ startRefusal time settings (copiedOf (now (profiles .entry))) ⌝ }
 {
     let held = profile_list::copied(profiles);
-    manager_calls::start(time, settings, held)
+    setup_calls::start(time, settings, held)
 }
 
 fn bringing(mut brought: Brought, profiles: Profiles) -> Brought

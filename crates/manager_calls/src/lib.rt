@@ -14,12 +14,6 @@ ghost use Rattle.obd2.specs.Calls.{profilesOf, waitingOf, consumedOf, tickCallO
 ghost use Rattle.obd2.specs.Refusals.{profilesRefusal, consumedRefusal, eventRefusal};
 ghost use Rattle.obd2.specs.State.{withProfiles, termsOf};
 
-// the start, and the settings
-pub mod setup;
-
-pub use setup::set_settings;
-pub use setup::start;
-
 // No event: maintenance, if it is due.
 pub fn tick(state: State, time: u64) -> Answered
     ensures { λ r. ⌜ r ≡ tickCallOf state time ⌝ }

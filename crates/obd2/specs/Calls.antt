@@ -9,6 +9,7 @@ use Rattle.base.specs.Choice.{pick}
 use Rattle.cache.specs.Rules.{answerOf, handedOf, afterAsk}
 use Rattle.cache.specs.declared.Answer.{Answer as Asked}
 use Rattle.cache.specs.declared.Answer.the-variants as asked
+use Rattle.config.specs.Blank.{noProfiles}
 use Rattle.config.specs.Defaults.{defaultSettings}
 use Rattle.config.specs.declared.Profiles.{Profiles}
 use Rattle.config.specs.declared.Settings.{Settings}
@@ -38,7 +39,7 @@ use Rattle.rounds.specs.declared.Outcome.{Outcome}
 use Rattle.reply.specs.Rules.{filledOf}
 use Rattle.reply.specs.declared.Response.{Response}
 use Rattle.waits.specs.Rules.{awaited, awaitedReply, collectedOf}
-use Rattle.obd2.specs.State.{withDesk, withPoller, withLine, withProfiles, withSettings, at, managed, termsOf, noDetails, reporting, linesOf, delivering, querying, answered, noProfiles, started}
+use Rattle.obd2.specs.State.{withDesk, withPoller, withLine, withProfiles, withSettings, at, managed, termsOf, noDetails, reporting, linesOf, delivering, querying, answered, started}
 use Rattle.obd2.specs.Refusals.{startRefusal, registerRefusal, askStep, askRefusal, collectRefusal, giveUpRefusal, responseRefusal, profilesRefusal, consumedRefusal, eventRefusal, settingsRefusal, closedRefusal, connectRefusal, nextRefusal, resultRefusal}
 use Rattle.obd2.specs.declared.State.{State}
 use Rattle.obd2.specs.declared.Answer.{Answer}

@@ -3,9 +3,7 @@ use mathlib.Core.Bool.{Bool, true, false}
 use mathlib.Core.List.{List, []}
 use Prim.Native.Nat.{ℕ}
 use lib.ListN.{replicate}
-use Rattle.config.specs.Defaults.{defaultSettings}
 use Rattle.config.specs.declared.Settings.{Settings}
-use Rattle.config.specs.declared.Profile.{Profile}
 use Rattle.config.specs.declared.Profiles.{Profiles}
 use Rattle.control.specs.Outbox.{messages}
 use Rattle.control_line.specs.Ring.{emptyLine, pushAllOf}
@@ -82,10 +80,6 @@ querying q = record { lines = 0; lengths = replicate 8 0; values = replicate 6 0
 
 abbrev pub answered : State → Answer → Details → Answered
 answered s a d = record { state = s; answer = a; details = d }
-
--- No profiles.
-abbrev pub noProfiles : Profiles
-noProfiles = record { list = replicate 16 (record { kind = 0; pid = 0; priority = 0; limited = false; threshold = 0; enabled = false }); count = 0 }
 
 -- The box started at a time with settings and profiles.
 unfoldable pub started : ℕ → Settings → Profiles → State

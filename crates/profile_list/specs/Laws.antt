@@ -10,35 +10,36 @@ use lib.ListN.{length, take, set, getD, length-take}
 use lib.Seq.{take-all, take-length, take-suc, take-append-seam, set-at, append-snoc}
 use borrow.Author.Tests.{leb-true, leb-false, le-leb, lt-leb}
 use Rattle.base.specs.Choice.{cases}
+use Rattle.config.specs.Blank.{noProfile}
 use Rattle.config.specs.InForce.{inForce}
 use Rattle.config.specs.declared.Profile.{Profile}
 use Rattle.config.specs.declared.Profiles.{Profiles}
 use Rattle.profile_check.specs.Check.{badProfiles}
-use Rattle.profile_list.specs.Copied.{copiedOf, countOf, zeroProfile, zeroProfiles}
+use Rattle.profile_list.specs.Copied.{copiedOf, countOf, blanks}
 
 -- The array once i records are copied, and the count with it.
 unfoldable pub heldOf : List Profile → ℕ → List Profile
-heldOf ps i = take i ps ++ zeroProfiles (16 - i)
+heldOf ps i = take i ps ++ blanks (16 - i)
 
 abbrev pub partOf : List Profile → ℕ → Profiles
 partOf ps i = record { list = heldOf ps i; count = countOf (length ps) }
 
 -- One record more, at the first place that has none.
 pub part-next : (ps : List Profile) (i : ℕ) → i < length ps → i < 16
-    → record { list = set (heldOf ps i) i (getD ps i zeroProfile); count = countOf (length ps) } ≡ partOf ps (i + 1)
+    → record { list = set (heldOf ps i) i (getD ps i noProfile); count = countOf (length ps) } ≡ partOf ps (i + 1)
 unfolding heldOf
 part-next ps i h k =
-    let a = getD ps i zeroProfile in
-    let left = zeroProfiles (16 - (i + 1)) in
+    let a = getD ps i noProfile in
+    let left = blanks (16 - (i + 1)) in
     let one-less : 16 - i ≡ suc (16 - (i + 1)) = omega arith in
     let long : length (take i ps) ≡ i = rw length-take (omega arith) in
     let here : set (heldOf ps i) i a ≡ take i ps ++ a ∷ left =
-    ap (λ (m : ℕ). set (take i ps ++ zeroProfiles m) i a) one-less ∙ set-at (take i ps) zeroProfile left a i long
+    ap (λ (m : ℕ). set (take i ps ++ blanks m) i a) one-less ∙ set-at (take i ps) noProfile left a i long
     in
-    let grown : take (i + 1) ps ≡ take i ps ++ (a ∷ []) = ap (λ (m : ℕ). take m ps) (add-one i) ∙ take-suc ps i zeroProfile h in
+    let grown : take (i + 1) ps ≡ take i ps ++ (a ∷ []) = ap (λ (m : ℕ). take m ps) (add-one i) ∙ take-suc ps i noProfile h in
     ap (λ (l : List Profile). record { list = l; count = countOf (length ps) }) (here ∙ sym (ap (λ (l : List Profile). l ++ left) grown ∙ append-snoc (take i ps) a left))
 
-pub part-start : (ps : List Profile) → record { list = zeroProfiles 16; count = countOf (length ps) } ≡ partOf ps 0
+pub part-start : (ps : List Profile) → record { list = blanks 16; count = countOf (length ps) } ≡ partOf ps 0
 unfolding heldOf
 part-start ps = refl
 
@@ -57,7 +58,7 @@ pub part-end : (ps : List Profile) → partOf ps (min (length ps) 16) ≡ copied
 unfolding heldOf copiedOf
 part-end ps =
     let left : 16 - min (length ps) 16 ≡ 16 - length ps = omega arith in
-    let lists = ap (λ (l : List Profile). l ++ zeroProfiles (16 - min (length ps) 16)) (first-16 ps) ∙ ap (λ (m : ℕ). take 16 ps ++ zeroProfiles m) left in
+    let lists = ap (λ (l : List Profile). l ++ blanks (16 - min (length ps) 16)) (first-16 ps) ∙ ap (λ (m : ℕ). take 16 ps ++ blanks m) left in
     ap (λ (l : List Profile). record { list = l; count = countOf (length ps) }) lists
 
 -- The count of a list that the array takes whole, and of a longer one.
@@ -73,9 +74,9 @@ count-over n h = rw (lt-leb n 16 h)
 pub all-in-force : (ps : List Profile) → length ps ≤ 16 → inForce (copiedOf ps) ≡ ps
 unfolding inForce copiedOf
 all-in-force ps h =
-    ap (λ (m : ℕ). take m (take 16 ps ++ zeroProfiles (16 - length ps))) (count-whole (length ps) h)
-    ∙ ap (λ (l : List Profile). take (length ps) (l ++ zeroProfiles (16 - length ps))) (take-all 16 ps h)
-    ∙ take-append-seam ps (zeroProfiles (16 - length ps))
+    ap (λ (m : ℕ). take m (take 16 ps ++ blanks (16 - length ps))) (count-whole (length ps) h)
+    ∙ ap (λ (l : List Profile). take (length ps) (l ++ blanks (16 - length ps))) (take-all 16 ps h)
+    ∙ take-append-seam ps (blanks (16 - length ps))
 
 -- Refusal 2: "over 16 profiles".
 pub longer-refused : (ps : List Profile) → 16 < length ps → badProfiles (copiedOf ps) ≡ true

@@ -2,7 +2,7 @@
 ghost use mathlib.Core.Path.{_≡_};
 ghost use Prim.Native.Nat.{_<_, min};
 ghost use lib.ListN.{length, set};
-ghost use Rattle.profile_list.specs.Copied.{copiedOf, countOf, zeroProfiles};
+ghost use Rattle.profile_list.specs.Copied.{copiedOf, countOf, blanks};
 use config::Profile;
 use config::Profiles;
 
@@ -10,27 +10,15 @@ const MAX_PROFILES: usize = 16;
 
 // An array with no profile, and the count of a list of n: 17 stands for every list that is too long.
 fn blank(n: usize) -> Profiles
-    ensures { λ r. ⌜ r ≡ record { list = zeroProfiles 16; count = countOf n } ⌝ }
+    ensures { λ r. ⌜ r ≡ record { list = blanks 16; count = countOf n } ⌝ }
 {
-    let zero = Profile {
-        kind: 0,
-        pid: 0,
-        priority: 0,
-        limited: false,
-        threshold: 0,
-        enabled: false,
-    };
-    let list = [zero; 16];
+    let mut none = config::no_profiles();
     if MAX_PROFILES < n {
-        return Profiles {
-            list: list,
-            count: 17,
-        };
+        none.count = 17;
+        return none;
     }
-    Profiles {
-        list: list,
-        count: n as u8,
-    }
+    none.count = n as u8;
+    none
 }
 
 // How many records of a list of n are copied.

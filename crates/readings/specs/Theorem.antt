@@ -7,6 +7,7 @@ use native.Mathlib.Omega.{arith}
 use lib.Dec.{eqb}
 use lib.ListN.{length, getD, drop, length-append}
 use Rattle.base.specs.Choice.{cases, false-true}
+use Rattle.config.specs.Blank.{noProfiles}
 use Rattle.config.specs.Defaults.{defaultSettings}
 use Rattle.config.specs.declared.Profiles.{Profiles}
 use Rattle.config.specs.declared.Settings.{Settings}
@@ -17,7 +18,7 @@ use Rattle.poller.specs.State.{startOf as startPoller}
 use Rattle.obd2.specs.Calls.{startOf}
 use Rattle.obd2.specs.History.{Call, register, leave, ask, collect, giveUp, response, profilePidsChanged, waiting, consumed, tick, settings, takeControl, connect, connectFailed, reconnectCheck, begin, next, result, Fit, Calls, none, more, Event, eventOf, step, happened}
 use Rattle.obd2.specs.Refusals.{startRefusal}
-use Rattle.obd2.specs.State.{started, noProfiles}
+use Rattle.obd2.specs.State.{started}
 use Rattle.obd2.specs.declared.State.{State}
 use Rattle.readings.specs.Claim.{readFrom, connected, here, given, waitIn, pending, Right, Claim}
 use Rattle.readings.specs.Desk.{register-step, leave-step, ask-step, collect-step, give-up-step, response-step}

@@ -15,6 +15,7 @@ use Rattle.cache.specs.Rules.{commandStep, stepOf, answerOf, handedOf, afterAsk
 use Rattle.clients.specs.Rules.{newcomer, placeOf, markedOf, takenOf, waitingOf, idledOf, findOf, registeredOf, freshIn}
 use Rattle.command.specs.Classify.{stripped, sameText, rangeTexts, indexOf, pidOf, commandOf}
 use Rattle.command.specs.declared.Command.the-variants as commands
+use Rattle.config.specs.Blank.{noProfiles}
 use Rattle.config.specs.Defaults.{defaultSettings}
 use Rattle.config.specs.InForce.{inForce}
 use Rattle.control.specs.Told.{toldOf}
@@ -44,7 +45,7 @@ use Rattle.waits.specs.Rules.{collectedOf}
 use Rattle.obd2.specs.Calls.{startOf, registerOf, askOf, collectOf, respondOf, connectOf, askArea, collectArea}
 use Rattle.obd2.specs.History.{Call, register, ask, collect, response, connect, FitResponse, Calls, none, more, Event, accepted, step, lentAfter, eventOf, run, happened, happened-append}
 use Rattle.obd2.specs.Refusals.{badTime, crowded, overRange, startRefusal, registerRefusal, askRefusal, collectRefusal, responseRefusal, connectRefusal}
-use Rattle.obd2.specs.State.{managed, started, noProfiles}
+use Rattle.obd2.specs.State.{managed, started}
 use Rattle.obd2.specs.declared.State.{State}
 use Rattle.obd2.specs.declared.Answer.the-variants as answer
 use Rattle.readings.specs.Claim.{readFrom, connected, pending, nothing, delivery, CacheAsk, hands}

@@ -16,10 +16,6 @@ mostProfiles = 16
 abbrev pub triggered : ℕ
 triggered = 2
 
--- What stands past a list's end.
-abbrev pub noProfile : Profile
-noProfile = record { kind = 0; pid = 0; priority = 0; limited = false; threshold = 0; enabled = false }
-
 abbrev pub withEnabled : Profile → Bool → Profile
 withEnabled x e = record { kind = x .kind; pid = x .pid; priority = x .priority; limited = x .limited; threshold = x .threshold; enabled = e }
 

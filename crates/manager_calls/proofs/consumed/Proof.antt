@@ -1,13 +1,8 @@
-use mathlib.Core.Bool.{true, false, _||_}
-use mathlib.Core.List.{[], _∷_}
 use mathlib.Core.Path.{refl, sym, _∙_}
 use Rattle.manager.specs.Calls.{consumedCallOf}
-use Rattle.obd2.specs.Calls.{told}
-use Rattle.obd2.specs.Refusals.{crowded}
 use Rattle.obd2.specs.State.{termsOf}
-use Rattle.obd2.specs.declared.Answer.the-variants.{Done}
-use Rattle.report.specs.Metrics.{overlongOf, fullOf}
-use Rattle.manager_calls.specs.Cases.{time-tested, note-tested, room-tested, at-first, at-second, at-third, past-three, consumed-is}
+use Rattle.obd2.specs.Answers.{settled-here, settled-next, settled-none}
+use Rattle.manager_calls.specs.Cases.{consumed-is}
 use borrow.Author.Needs.{needs}
 use Rattle.manager_calls.proofs.consumed.Statement.{statement}
 use Rattle.manager_calls.proofs.consumed.Tie as tie
@@ -26,8 +21,8 @@ returns c =
     let p = b .before .args .pid in
     let w = b .before .args .wait in
     let m = consumedCallOf (s .manager) (termsOf s t) p w in
-    let late = time-tested s t (b .bad-time .result) true (b .bad-time .ensures) (c .before .if1 .taken) in
-    consumed-is s t m (c .refuse .result) p w refl (c .refuse .ensures ∙ sym (at-first s (told s t m Done) _ ((4, overlongOf w || fullOf (s .manager .metrics)) ∷ (15, crowded s m) ∷ []) late))
+    let late = sym (b .bad-time .ensures) ∙ c .before .if1 .taken in
+    consumed-is s t m p w refl (settled-here s _ 1 _ late refl (c .refuse .ensures))
 
 refused-requires : tie.Need-refused-requires
 refused-requires c κs = search needs
@@ -45,9 +40,9 @@ returns-2 c =
     let p = b .before .args .pid in
     let w = b .before .args .wait in
     let m = consumedCallOf (s .manager) (termsOf s t) p w in
-    let soon = time-tested s t (b .bad-time .result) false (b .bad-time .ensures) (g .if1 .left) in
-    let unnoted = note-tested (s .manager .metrics) w (n .refused .result) true (n .refused .ensures) (c .before .if2 .taken) in
-    consumed-is s t m (c .refuse2 .result) p w refl (c .refuse2 .ensures ∙ sym (at-second s (told s t m Done) _ 4 _ ((15, crowded s m) ∷ []) soon unnoted refl))
+    let soon = sym (b .bad-time .ensures) ∙ g .if1 .left in
+    let unnoted = sym (n .refused .ensures) ∙ c .before .if2 .taken in
+    consumed-is s t m p w refl (settled-next s _ 1 _ soon (settled-here s _ 4 _ unnoted refl (c .refuse2 .ensures)))
 
 consumed-requires : tie.Need-consumed-requires
 consumed-requires c κs = search needs
@@ -71,10 +66,10 @@ returns-3 c =
     let p = b .before .args .pid in
     let w = b .before .args .wait in
     let m = k .consumed .result in
-    let soon = time-tested s t (b .bad-time .result) false (b .bad-time .ensures) (g .if1 .left) in
-    let noted = note-tested (s .manager .metrics) w (n .refused .result) false (n .refused .ensures) (h .if2 .left) in
-    let full = room-tested s m (d .crowded .result) true (d .crowded .ensures) (c .before .if3 .taken) in
-    consumed-is s t m (c .refuse3 .result) p w (k .consumed .ensures) (c .refuse3 .ensures ∙ sym (at-third s (told s t m Done) _ 4 _ _ soon noted full))
+    let soon = sym (b .bad-time .ensures) ∙ g .if1 .left in
+    let noted = sym (n .refused .ensures) ∙ h .if2 .left in
+    let full = sym (d .crowded .ensures) ∙ c .before .if3 .taken in
+    consumed-is s t m p w (k .consumed .ensures) (settled-next s _ 1 _ soon (settled-next s _ 4 _ noted (settled-here s _ 15 _ full refl (c .refuse3 .ensures))))
 
 told-requires : tie.Need-told-requires
 told-requires c κs = search needs
@@ -92,10 +87,10 @@ returns-4 c =
     let p = b .before .args .pid in
     let w = b .before .args .wait in
     let m = k .consumed .result in
-    let soon = time-tested s t (b .bad-time .result) false (b .bad-time .ensures) (g .if1 .left) in
-    let noted = note-tested (s .manager .metrics) w (n .refused .result) false (n .refused .ensures) (h .if2 .left) in
-    let room = room-tested s m (d .crowded .result) false (d .crowded .ensures) (c .before .if3 .left) in
-    consumed-is s t m (c .told .result) p w (k .consumed .ensures) (c .told .ensures ∙ sym (past-three s (told s t m Done) _ 4 _ _ soon noted room))
+    let soon = sym (b .bad-time .ensures) ∙ g .if1 .left in
+    let noted = sym (n .refused .ensures) ∙ h .if2 .left in
+    let room = sym (d .crowded .ensures) ∙ c .before .if3 .left in
+    consumed-is s t m p w (k .consumed .ensures) (settled-next s _ 1 _ soon (settled-next s _ 4 _ noted (settled-next s _ 15 _ room (settled-none s _ (c .told .ensures)))))
 
 pub consumed-spec : {M : Type 1} → statement M
 consumed-spec =

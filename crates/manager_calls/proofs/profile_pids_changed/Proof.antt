@@ -1,13 +1,8 @@
-use mathlib.Core.Bool.{true, false}
-use mathlib.Core.List.{[], _∷_}
 use mathlib.Core.Path.{refl, sym, _∙_}
 use Rattle.manager.specs.Calls.{changedOf}
-use Rattle.obd2.specs.Calls.{told}
-use Rattle.obd2.specs.Refusals.{crowded}
 use Rattle.obd2.specs.State.{withProfiles, termsOf}
-use Rattle.obd2.specs.declared.Answer.the-variants.{Done}
-use Rattle.profile_check.specs.Check.{badProfiles}
-use Rattle.manager_calls.specs.Cases.{time-tested, room-tested, at-first, at-second, at-third, past-three, profiles-is}
+use Rattle.obd2.specs.Answers.{settled-here, settled-next, settled-none}
+use Rattle.manager_calls.specs.Cases.{profiles-is}
 use borrow.Author.Needs.{needs}
 use Rattle.manager_calls.proofs.profile_pids_changed.Statement.{statement}
 use Rattle.manager_calls.proofs.profile_pids_changed.Tie as tie
@@ -25,8 +20,8 @@ returns c =
     let t = b .before .args .time in
     let x = b .before .args .profiles in
     let m = changedOf (s .manager) (termsOf (withProfiles s x) t) in
-    let late = time-tested s t (b .bad-time .result) true (b .bad-time .ensures) (c .before .if1 .taken) in
-    profiles-is s t m (c .refuse .result) x refl (c .refuse .ensures ∙ sym (at-first s (told (withProfiles s x) t m Done) _ ((2, badProfiles x) ∷ (15, crowded s m) ∷ []) late))
+    let late = sym (b .bad-time .ensures) ∙ c .before .if1 .taken in
+    profiles-is s t m x refl (settled-here s _ 1 _ late refl (c .refuse .ensures))
 
 bad-profiles-requires : tie.Need-bad-profiles-requires
 bad-profiles-requires c κs = search needs
@@ -43,9 +38,9 @@ returns-2 c =
     let t = b .before .args .time in
     let x = b .before .args .profiles in
     let m = changedOf (s .manager) (termsOf (withProfiles s x) t) in
-    let soon = time-tested s t (b .bad-time .result) false (b .bad-time .ensures) (g .if1 .left) in
+    let soon = sym (b .bad-time .ensures) ∙ g .if1 .left in
     let bad = sym (n .bad-profiles .ensures) ∙ c .before .if2 .taken in
-    profiles-is s t m (c .refuse2 .result) x refl (c .refuse2 .ensures ∙ sym (at-second s (told (withProfiles s x) t m Done) _ 2 _ ((15, crowded s m) ∷ []) soon bad refl))
+    profiles-is s t m x refl (settled-next s _ 1 _ soon (settled-here s _ 2 _ bad refl (c .refuse2 .ensures)))
 
 profile-pids-changed-requires : tie.Need-profile-pids-changed-requires
 profile-pids-changed-requires c κs = search needs
@@ -68,10 +63,10 @@ returns-3 c =
     let t = b .before .args .time in
     let x = b .before .args .profiles in
     let m = k .profile-pids-changed .result in
-    let soon = time-tested s t (b .bad-time .result) false (b .bad-time .ensures) (g .if1 .left) in
+    let soon = sym (b .bad-time .ensures) ∙ g .if1 .left in
     let good = sym (n .bad-profiles .ensures) ∙ h .if2 .left in
-    let full = room-tested s m (d .crowded .result) true (d .crowded .ensures) (c .before .if3 .taken) in
-    profiles-is s t m (c .refuse3 .result) x (k .profile-pids-changed .ensures) (c .refuse3 .ensures ∙ sym (at-third s (told (withProfiles s x) t m Done) _ 2 _ _ soon good full))
+    let full = sym (d .crowded .ensures) ∙ c .before .if3 .taken in
+    profiles-is s t m x (k .profile-pids-changed .ensures) (settled-next s _ 1 _ soon (settled-next s _ 2 _ good (settled-here s _ 15 _ full refl (c .refuse3 .ensures))))
 
 told-requires : tie.Need-told-requires
 told-requires c κs = search needs
@@ -88,10 +83,10 @@ returns-4 c =
     let t = b .before .args .time in
     let x = b .before .args .profiles in
     let m = k .profile-pids-changed .result in
-    let soon = time-tested s t (b .bad-time .result) false (b .bad-time .ensures) (g .if1 .left) in
+    let soon = sym (b .bad-time .ensures) ∙ g .if1 .left in
     let good = sym (n .bad-profiles .ensures) ∙ h .if2 .left in
-    let room = room-tested s m (d .crowded .result) false (d .crowded .ensures) (c .before .if3 .left) in
-    profiles-is s t m (c .told .result) x (k .profile-pids-changed .ensures) (c .told .ensures ∙ sym (past-three s (told (withProfiles s x) t m Done) _ 2 _ _ soon good room))
+    let room = sym (d .crowded .ensures) ∙ c .before .if3 .left in
+    profiles-is s t m x (k .profile-pids-changed .ensures) (settled-next s _ 1 _ soon (settled-next s _ 2 _ good (settled-next s _ 15 _ room (settled-none s _ (c .told .ensures)))))
 
 pub profile-pids-changed-spec : {M : Type 1} → statement M
 profile-pids-changed-spec =

@@ -1,12 +1,8 @@
-use mathlib.Core.Bool.{true, false}
-use mathlib.Core.List.{[], _∷_}
 use mathlib.Core.Path.{refl, sym, _∙_}
 use Rattle.manager.specs.Calls.{tickOf}
-use Rattle.obd2.specs.Calls.{told}
-use Rattle.obd2.specs.Refusals.{crowded}
 use Rattle.obd2.specs.State.{termsOf}
-use Rattle.obd2.specs.declared.Answer.the-variants.{Done}
-use Rattle.manager_calls.specs.Cases.{time-tested, room-tested, at-first, at-second, past-two, tick-is}
+use Rattle.obd2.specs.Answers.{settled-here, settled-next, settled-none}
+use Rattle.manager_calls.specs.Cases.{tick-is}
 use borrow.Author.Needs.{needs}
 use Rattle.manager_calls.proofs.tick.Statement.{statement}
 use Rattle.manager_calls.proofs.tick.Tie as tie
@@ -23,8 +19,8 @@ returns c =
     let s = b .before .args .state in
     let t = b .before .args .time in
     let m = tickOf (s .manager) (termsOf s t) in
-    let late = time-tested s t (b .bad-time .result) true (b .bad-time .ensures) (c .before .if1 .taken) in
-    tick-is s t m (c .refuse .result) refl (c .refuse .ensures ∙ sym (at-first s (told s t m Done) _ ((15, crowded s m) ∷ []) late))
+    let late = sym (b .bad-time .ensures) ∙ c .before .if1 .taken in
+    tick-is s t m refl (settled-here s _ 1 _ late refl (c .refuse .ensures))
 
 tick-requires : tie.Need-tick-requires
 tick-requires c κs = search needs
@@ -44,9 +40,9 @@ returns-2 c =
     let s = b .before .args .state in
     let t = b .before .args .time in
     let m = k .tick .result in
-    let soon = time-tested s t (b .bad-time .result) false (b .bad-time .ensures) (g .if1 .left) in
-    let full = room-tested s m (d .crowded .result) true (d .crowded .ensures) (c .before .if2 .taken) in
-    tick-is s t m (c .refuse2 .result) (k .tick .ensures) (c .refuse2 .ensures ∙ sym (at-second s (told s t m Done) _ 15 _ [] soon full refl))
+    let soon = sym (b .bad-time .ensures) ∙ g .if1 .left in
+    let full = sym (d .crowded .ensures) ∙ c .before .if2 .taken in
+    tick-is s t m (k .tick .ensures) (settled-next s _ 1 _ soon (settled-here s _ 15 _ full refl (c .refuse2 .ensures)))
 
 told-requires : tie.Need-told-requires
 told-requires c κs = search needs
@@ -60,9 +56,9 @@ returns-3 c =
     let s = b .before .args .state in
     let t = b .before .args .time in
     let m = k .tick .result in
-    let soon = time-tested s t (b .bad-time .result) false (b .bad-time .ensures) (g .if1 .left) in
-    let room = room-tested s m (d .crowded .result) false (d .crowded .ensures) (c .before .if2 .left) in
-    tick-is s t m (c .told .result) (k .tick .ensures) (c .told .ensures ∙ sym (past-two s (told s t m Done) _ 15 _ soon room))
+    let soon = sym (b .bad-time .ensures) ∙ g .if1 .left in
+    let room = sym (d .crowded .ensures) ∙ c .before .if2 .left in
+    tick-is s t m (k .tick .ensures) (settled-next s _ 1 _ soon (settled-next s _ 15 _ room (settled-none s _ (c .told .ensures))))
 
 pub tick-spec : {M : Type 1} → statement M
 tick-spec =

@@ -1,6 +1,5 @@
-use mathlib.Core.Path.{sym, _∙_}
-use borrow.Author.Tests.{ne-eqb}
-use Rattle.poller_calls.specs.Cases.{closed-refusal, take-refused, take-nothing, take-message, take-all}
+use mathlib.Core.Path.{_∙_}
+use Rattle.poller_calls.specs.Cases.{closed-tested, take-refused, take-nothing, take-message, take-all}
 use borrow.Author.Needs.{needs}
 use Rattle.poller_calls.proofs.take_control.Statement.{statement}
 use Rattle.poller_calls.proofs.take_control.Tie as tie
@@ -18,8 +17,8 @@ returns : tie.Need-returns
 returns c =
     let k = c .before .before in
     let a = k .before .before .before .before .args in
-    let e = closed-refusal (a .state) (a .time) ∙ sym (rw (k .before .open .ensures) at (k .refusal-of .ensures)) in
-    take-all (a .state) (a .time) (c .refuse .ensures ∙ sym (take-refused (a .state) (a .time) (k .refusal-of .result) (ne-eqb _ _ (c .before .if1 .taken)) e))
+    let e = closed-tested (a .state) (a .time) (k .before .open .ensures) (k .refusal-of .ensures) in
+    take-all (a .state) (a .time) (take-refused (a .state) (a .time) e (c .before .if1 .taken) (c .refuse .ensures))
 
 take-requires : tie.Need-take-requires
 take-requires c κs = search needs
@@ -51,9 +50,9 @@ returns-2 c =
     let i = l .before .before in
     let k = i .before in
     let a = k .before .before .before .before .args in
-    let e = closed-refusal (a .state) (a .time) ∙ sym (rw (k .before .open .ensures) at (k .refusal-of .ensures)) ∙ i .if1 .left in
-    let f = rw (l .take .ensures) at (m .taken .given .1) in
-    take-all (a .state) (a .time) (rw (c .accepted .ensures, take-message (a .state) (a .time) _ e f, n .no-details .ensures, p .apply .ensures .0, ← l .take .ensures))
+    let e = closed-tested (a .state) (a .time) (k .before .open .ensures) (k .refusal-of .ensures) ∙ i .if1 .left in
+    take-all (a .state) (a .time)
+    (take-message (a .state) (a .time) e (l .take .result) (l .take .ensures) _ (m .taken .given .1) (rw (c .accepted .ensures, n .no-details .ensures, p .apply .ensures .0)))
 
 returns-3 : tie.Need-returns-3
 returns-3 c =
@@ -63,9 +62,9 @@ returns-3 c =
     let i = l .before .before in
     let k = i .before in
     let a = k .before .before .before .before .args in
-    let e = closed-refusal (a .state) (a .time) ∙ sym (rw (k .before .open .ensures) at (k .refusal-of .ensures)) ∙ i .if1 .left in
-    let f = rw (l .take .ensures) at (m .enum-told .given .1) in
-    take-all (a .state) (a .time) (rw (c .accepted2 .ensures, take-nothing (a .state) (a .time) e f, n .no-details .ensures, ← l .take .ensures))
+    let e = closed-tested (a .state) (a .time) (k .before .open .ensures) (k .refusal-of .ensures) ∙ i .if1 .left in
+    take-all (a .state) (a .time)
+    (take-nothing (a .state) (a .time) e (l .take .result) (l .take .ensures) (m .enum-told .given .1) (rw (c .accepted2 .ensures, n .no-details .ensures)))
 
 pub take-control-spec : {M : Type 1} → statement M
 take-control-spec =

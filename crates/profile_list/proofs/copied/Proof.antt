@@ -50,6 +50,7 @@ use denote.Triple.Clauses.{lasts}
 use denote.Triple.Table.{entered, cited}
 use denote.Triple.Walked.{says, Stays, stay-dropped, walkOf, goes-dropped, Walks, ends-at, walked, walk-meets}
 use denote.Exit.{yes}
+use Rattle.config.specs.Blank.{noProfile}
 use Rattle.config.specs.declared.Profile.{Profile}
 use Rattle.config.specs.declared.Profiles.{Profiles}
 use Rattle.config.proofs.Profile as R
@@ -57,7 +58,7 @@ use Rattle.config.proofs.Profile.Laws as R′
 use Rattle.config.proofs.Profiles as P
 use Rattle.config.proofs.Profiles.Laws as P′
 use Rattle.walks.proofs.Steps.{told}
-use Rattle.profile_list.specs.Copied.{copiedOf, countOf, zeroProfile, zeroProfiles}
+use Rattle.profile_list.specs.Copied.{copiedOf, countOf, blanks}
 use Rattle.profile_list.specs.Laws.{partOf, part-start, part-next, part-end}
 use Rattle.profile_list.proofs.kept as kept
 use Rattle.profile_list.proofs.kept.Symbol as kept-def
@@ -134,7 +135,7 @@ module _ {M : Type 1} (𝓤 : URA M) (H : Heap 𝓤) (A : Atoms 𝓤) (W : Given
   part i = partOf ps i
 
   abbrev one : ℕ → Profile
-  one i = getD ps i zeroProfile
+  one i = getD ps i noProfile
 
   abbrev passed : List Val
   passed = sliceVal (x .ptr) n ∷ []
@@ -217,11 +218,11 @@ module _ {M : Type 1} (𝓤 : URA M) (H : Heap 𝓤) (A : Atoms 𝓤) (W : Given
         assigns ! (bin ! (load ! (from ! (stop !)) (look ! 8 refl)) (lit ! tt) (record { fits = omega arith })) (from ! (stop !)) (init ! 4 refl (tt, record { fits = omega arith })) $
         assigns ! (bin ! (load ! (from ! (fld ! refl (stop !))) (look-in ! 16 (sub ! 0 refl (whole !)))) (load ! (from ! (stop !)) (look ! 4 refl)) tt) (from ! (stop !)) (init ! 2 refl (tt, tt)) $
         rewrite ! 2 (λ (p : ℕ). ‵ (fat fullShare tyPtr l₈ 0 (vptr b p))) (sym (place-is 12 o (i .0))) refl $ move ! (20 ∷ []) $
-        elem-out ! R.the-row (Is R.the-row) (shows 𝓤 H A R.the-row) (SL.vals R.the-type R′.the-laws) (SL.tells R.the-type R′.the-laws) q′ ps (i .0) zeroProfile b o within (λ g.
+        elem-out ! R.the-row (Is R.the-row) (shows 𝓤 H A R.the-row) (SL.vals R.the-type R′.the-laws) (SL.tells R.the-type R′.the-laws) q′ ps (i .0) noProfile b o within (λ g.
         -- [the record; what it owns; the others; _9; …; .. _0; …; the open borrow; what the array owns]
         assigns ! (of-opd ! (load ! (from ! (hop ! (look ! 5 refl) (stop !))) (look-raw ! 0 refl))) (from ! (stop !))
         (init ! 3 refl (SL.lawful R.the-type R′.the-laws 𝓤 H A W .typed (one (i .0)) _ g .0)) $
-        elem-back ! R.the-row q′ ps (i .0) zeroProfile (profileVal (one (i .0)) ∷ []) b o within $
+        elem-back ! R.the-row q′ ps (i .0) noProfile (profileVal (one (i .0)) ∷ []) b o within $
         nothing ! $ owned ! R.the-row (Is R.the-row) (SL.makes R.the-type R′.the-plain 𝓤 H A) (one (i .0)) _ g $ fjoin ! $
         owned ! usize (Is usize) (uint-makes 𝓤 H A W w64) (i .0) _ (refl, omega arith) $ fjoin ! $ move ! (23 ∷ 0 ∷ []) $ fjoin ! $ nothing ! $
         use2 W (raw (Put 𝓤 H A at-mem run .pre (to-put (i .0)))) (asked (i .0) small) $
@@ -294,7 +295,7 @@ module _ {M : Type 1} (𝓤 : URA M) (H : Heap 𝓤) (A : Atoms 𝓤) (W : Given
         -- the array without a record
         nothing ! $ owned ! usize (Is usize) (uint-makes 𝓤 H A W w64) n _ (refl, room .0) $ fjoin ! $ nothing ! $ use2 W (raw (Blank 𝓤 H A at-mem run .pre to-blank)) (∗emp 𝓤 _) $
         calls-at ! (fmOf 𝓤 H (W .laws) 𝓣) (Blank 𝓤 H A at-mem run) known-blank to-blank (and-then ! (load ! (from ! (stop !)) (look ! 15 refl)) (no-more !)) (λ w.
-        told ! tt (‵ ftrue) P.the-row (λ d. d ≡ record { list = zeroProfiles 16; count = countOf n }) (lasts blank.ended tt (n, tt)) w (id⊢ 𝓤 _) (λ d d-is. move ! (1 ∷ []) $ drop ! $
+        told ! tt (‵ ftrue) P.the-row (λ d. d ≡ record { list = blanks 16; count = countOf n }) (lasts blank.ended tt (n, tt)) w (id⊢ 𝓤 _) (λ d d-is. move ! (1 ∷ []) $ drop ! $
         rewrite ! 0 (λ (c : Profiles). ‵ (P.the-row .own c (w ∷ []))) (d-is ∙ part-start ps) refl $
         peeks ! P.the-row (Is P.the-row) (shows 𝓤 H A P.the-row) (part 0) (w ∷ []) (λ is.
         land ! (from ! (stop !)) (init ! 11 refl (SL.lawful P.the-type P′.the-laws 𝓤 H A W .typed (part 0) _ is .0)) $

@@ -4,7 +4,8 @@ use mathlib.Core.Path.{_≡_, sym, ap, _∙_}
 use lib.ListN.{length, getD, take, drop, length-map}
 use lib.Seq.{length-take-le, getD-take}
 use Rattle.base.specs.Each.{someOf, some-here, some-next, some-end}
-use Rattle.triggers.specs.Rules.{mostProfiles, crossedOf, noticeOf, noProfile}
+use Rattle.config.specs.Blank.{noProfile}
+use Rattle.triggers.specs.Rules.{mostProfiles, crossedOf, noticeOf}
 use Rattle.triggers.specs.Laws.{in-force-le}
 use borrow.Author.Needs.{needs}
 use Rattle.triggers.proofs.notice.Statement.{statement}

@@ -4,7 +4,8 @@ use mathlib.Core.Path.{_≡_, sym, ap, _∙_}
 use lib.ListN.{length, set, length-map}
 use Rattle.base.specs.Each.{eachOf, each-step, each-none}
 use Rattle.config.specs.declared.Profile.{Profile}
-use Rattle.triggers.specs.Rules.{mostProfiles, inForceOf, switchedOf, switchOf, withList, noProfile}
+use Rattle.config.specs.Blank.{noProfile}
+use Rattle.triggers.specs.Rules.{mostProfiles, inForceOf, switchedOf, switchOf, withList}
 use Rattle.triggers.specs.Laws.{in-force-le}
 use borrow.Author.Needs.{needs}
 use Rattle.triggers.proofs.switch.Statement.{statement}

@@ -1,5 +1,5 @@
 use mathlib.Core.Path.{sym, _∙_}
-use Rattle.desk_calls.specs.Numbers.{numbered, leave-number}
+use Rattle.desk_calls.specs.Numbers.{leave-all}
 use Rattle.desk_calls.specs.Cases.{leave-late, leave-crowded, leave-done}
 use borrow.Author.Needs.{needs}
 use Rattle.desk_calls.proofs.leaving.leave.Statement.{statement}
@@ -15,7 +15,7 @@ returns : tie.Need-returns
 returns c =
     let g = c .before in
     let a = g .before .before .args in
-    numbered (c .refuse .ensures ∙ leave-late (a .state) (a .time) (a .number) (sym (g .before .bad-time .ensures) ∙ g .if1 .taken)) (leave-number (a .state) (a .time) (a .number))
+    leave-all (a .state) (a .time) (a .number) (c .refuse .ensures ∙ leave-late (a .state) (a .time) (a .number) (sym (g .before .bad-time .ensures) ∙ g .if1 .taken))
 
 tick-requires : tie.Need-tick-requires
 tick-requires c κs = search needs
@@ -32,7 +32,7 @@ returns-2 c =
     let m = k .before .before in
     let g = m .before .before .before .before in
     let a = g .before .before .args in
-    numbered (c .refuse2 .ensures ∙ leave-crowded (a .state) (a .time) (a .number) (sym (g .before .bad-time .ensures) ∙ g .if1 .left) (m .tick .result) (m .tick .ensures) (sym (k .before .crowded .ensures) ∙ k .if2 .taken)) (leave-number (a .state) (a .time) (a .number))
+    leave-all (a .state) (a .time) (a .number) (c .refuse2 .ensures ∙ leave-crowded (a .state) (a .time) (a .number) (sym (g .before .bad-time .ensures) ∙ g .if1 .left) (m .tick .result) (m .tick .ensures) (sym (k .before .crowded .ensures) ∙ k .if2 .taken))
 
 leave-requires : tie.Need-leave-requires
 leave-requires c κs = search needs
@@ -47,7 +47,7 @@ returns-3 c =
     let m = k .before .before in
     let g = m .before .before .before .before in
     let a = g .before .before .args in
-    numbered (c .told .ensures ∙ leave-done (a .state) (a .time) (a .number) (sym (g .before .bad-time .ensures) ∙ g .if1 .left) (m .tick .result) (m .tick .ensures) (sym (k .before .crowded .ensures) ∙ k .if2 .left) (l .leave .result) (l .leave .ensures)) (leave-number (a .state) (a .time) (a .number))
+    leave-all (a .state) (a .time) (a .number) (c .told .ensures ∙ leave-done (a .state) (a .time) (a .number) (sym (g .before .bad-time .ensures) ∙ g .if1 .left) (m .tick .result) (m .tick .ensures) (sym (k .before .crowded .ensures) ∙ k .if2 .left) (l .leave .result) (l .leave .ensures))
 
 pub leave-spec : {M : Type 1} → statement M
 leave-spec =

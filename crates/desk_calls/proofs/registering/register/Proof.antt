@@ -1,5 +1,5 @@
 use mathlib.Core.Path.{sym, _∙_}
-use Rattle.desk_calls.specs.Numbers.{valued, register-number, register-values}
+use Rattle.desk_calls.specs.Numbers.{register-all}
 use Rattle.desk_calls.specs.Cases.{register-late, register-refused, register-crowded, register-done}
 use borrow.Author.Needs.{needs}
 use Rattle.desk_calls.proofs.registering.register.Statement.{statement}
@@ -15,7 +15,7 @@ returns : tie.Need-returns
 returns c =
     let g = c .before in
     let a = g .before .before .args in
-    valued (c .refuse .ensures ∙ register-late (a .state) (a .time) (sym (g .before .bad-time .ensures) ∙ g .if1 .taken)) (register-number (a .state) (a .time)) (register-values (a .state) (a .time))
+    register-all (a .state) (a .time) (c .refuse .ensures ∙ register-late (a .state) (a .time) (sym (g .before .bad-time .ensures) ∙ g .if1 .taken))
 
 register-requires : tie.Need-register-requires
 register-requires c κs = search needs
@@ -29,7 +29,7 @@ returns-2 c =
     let w = k .before .before in
     let g = w .before .before in
     let a = g .before .before .args in
-    valued (c .refuse2 .ensures ∙ register-refused (a .state) (a .time) (sym (g .before .bad-time .ensures) ∙ g .if1 .left) (w .register .result) (w .register .ensures) (k .if2 .taken)) (register-number (a .state) (a .time)) (register-values (a .state) (a .time))
+    register-all (a .state) (a .time) (c .refuse2 .ensures ∙ register-refused (a .state) (a .time) (sym (g .before .bad-time .ensures) ∙ g .if1 .left) (w .register .result) (w .register .ensures) (k .if2 .taken))
 
 tick-requires : tie.Need-tick-requires
 tick-requires c κs = search needs
@@ -48,7 +48,7 @@ returns-3 c =
     let w = k .before .before in
     let g = w .before .before in
     let a = g .before .before .args in
-    valued (c .refuse3 .ensures ∙ register-crowded (a .state) (a .time) (sym (g .before .bad-time .ensures) ∙ g .if1 .left) (w .register .result) (w .register .ensures) (k .if2 .left) (m .tick .result) (m .tick .ensures) (sym (l .before .crowded .ensures) ∙ l .if3 .taken)) (register-number (a .state) (a .time)) (register-values (a .state) (a .time))
+    register-all (a .state) (a .time) (c .refuse3 .ensures ∙ register-crowded (a .state) (a .time) (sym (g .before .bad-time .ensures) ∙ g .if1 .left) (w .register .result) (w .register .ensures) (k .if2 .left) (m .tick .result) (m .tick .ensures) (sym (l .before .crowded .ensures) ∙ l .if3 .taken))
 
 told-requires : tie.Need-told-requires
 told-requires c κs = search needs
@@ -61,7 +61,7 @@ returns-4 c =
     let w = k .before .before in
     let g = w .before .before in
     let a = g .before .before .args in
-    valued (c .told .ensures ∙ register-done (a .state) (a .time) (sym (g .before .bad-time .ensures) ∙ g .if1 .left) (w .register .result) (w .register .ensures) (k .if2 .left) (m .tick .result) (m .tick .ensures) (sym (l .before .crowded .ensures) ∙ l .if3 .left)) (register-number (a .state) (a .time)) (register-values (a .state) (a .time))
+    register-all (a .state) (a .time) (c .told .ensures ∙ register-done (a .state) (a .time) (sym (g .before .bad-time .ensures) ∙ g .if1 .left) (w .register .result) (w .register .ensures) (k .if2 .left) (m .tick .result) (m .tick .ensures) (sym (l .before .crowded .ensures) ∙ l .if3 .left))
 
 pub register-spec : {M : Type 1} → statement M
 register-spec =

@@ -1,5 +1,5 @@
 use mathlib.Core.Path.{sym, _∙_}
-use Rattle.desk_calls.specs.Numbers.{numbered, response-number}
+use Rattle.desk_calls.specs.Numbers.{response-all}
 use Rattle.desk_calls.specs.Cases.{response-late, response-refused, response-crowded, response-done}
 use borrow.Author.Needs.{needs}
 use Rattle.desk_calls.proofs.responding.response.Statement.{statement}
@@ -15,7 +15,7 @@ returns : tie.Need-returns
 returns c =
     let g = c .before in
     let a = g .before .before .args in
-    numbered (c .refuse .ensures ∙ response-late (a .state) (a .time) (a .response) (sym (g .before .bad-time .ensures) ∙ g .if1 .taken)) (response-number (a .state) (a .time) (a .response))
+    response-all (a .state) (a .time) (a .response) (c .refuse .ensures ∙ response-late (a .state) (a .time) (a .response) (sym (g .before .bad-time .ensures) ∙ g .if1 .taken))
 
 response-requires : tie.Need-response-requires
 response-requires c κs = search needs
@@ -29,7 +29,7 @@ returns-2 c =
     let w = k .before .before in
     let g = w .before .before .before in
     let a = g .before .before .args in
-    numbered (c .refuse2 .ensures ∙ response-refused (a .state) (a .time) (a .response) (sym (g .before .bad-time .ensures) ∙ g .if1 .left) (w .response .result) (w .response .ensures) (k .if2 .taken)) (response-number (a .state) (a .time) (a .response))
+    response-all (a .state) (a .time) (a .response) (c .refuse2 .ensures ∙ response-refused (a .state) (a .time) (a .response) (sym (g .before .bad-time .ensures) ∙ g .if1 .left) (w .response .result) (w .response .ensures) (k .if2 .taken))
 
 tick-requires : tie.Need-tick-requires
 tick-requires c κs = search needs
@@ -48,7 +48,7 @@ returns-3 c =
     let w = k .before .before in
     let g = w .before .before .before in
     let a = g .before .before .args in
-    numbered (c .refuse3 .ensures ∙ response-crowded (a .state) (a .time) (a .response) (sym (g .before .bad-time .ensures) ∙ g .if1 .left) (w .response .result) (w .response .ensures) (k .if2 .left) (m .tick .result) (m .tick .ensures) (sym (l .before .crowded .ensures) ∙ l .if3 .taken)) (response-number (a .state) (a .time) (a .response))
+    response-all (a .state) (a .time) (a .response) (c .refuse3 .ensures ∙ response-crowded (a .state) (a .time) (a .response) (sym (g .before .bad-time .ensures) ∙ g .if1 .left) (w .response .result) (w .response .ensures) (k .if2 .left) (m .tick .result) (m .tick .ensures) (sym (l .before .crowded .ensures) ∙ l .if3 .taken))
 
 delivering-requires : tie.Need-delivering-requires
 delivering-requires c κs = search needs
@@ -65,7 +65,7 @@ returns-4 c =
     let w = k .before .before in
     let g = w .before .before .before in
     let a = g .before .before .args in
-    numbered (response-done (a .state) (a .time) (a .response) (sym (g .before .bad-time .ensures) ∙ g .if1 .left) (w .response .result) (w .response .ensures) (k .if2 .left) (m .tick .result) (m .tick .ensures) (sym (l .before .crowded .ensures) ∙ l .if3 .left) (c .told .result) (c .told .ensures) (d .delivering .result) (d .delivering .ensures)) (response-number (a .state) (a .time) (a .response))
+    response-all (a .state) (a .time) (a .response) (response-done (a .state) (a .time) (a .response) (sym (g .before .bad-time .ensures) ∙ g .if1 .left) (w .response .result) (w .response .ensures) (k .if2 .left) (m .tick .result) (m .tick .ensures) (sym (l .before .crowded .ensures) ∙ l .if3 .left) (c .told .result) (c .told .ensures) (d .delivering .result) (d .delivering .ensures))
 
 pub response-spec : {M : Type 1} → statement M
 response-spec =

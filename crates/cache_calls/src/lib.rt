@@ -1,0 +1,8 @@
+// The box's calls of the client cache: ask, collect and give up. A refused one leaves the box as it was.
+mod asking;
+mod collecting;
+mod giving_up;
+
+pub use asking::ask;
+pub use collecting::collect;
+pub use giving_up::give_up;
