@@ -1,7 +1,7 @@
 // The profiles come in as a lent list of records, and go into the array that the box holds.
 ghost use mathlib.Core.Path.{_≡_};
 ghost use Prim.Native.Nat.{_<_, min};
-ghost use lib.ListN.{length, set};
+ghost use lib.ListN.{set};
 ghost use Rattle.profile_list.specs.Copied.{copiedOf, countOf, blanks};
 use config::Profile;
 use config::Profiles;
