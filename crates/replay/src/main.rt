@@ -1,5 +1,5 @@
 // Runs the box from text: a call a line in, an answer a line out, as history-format.md has them. `history` takes
-// a line apart, `dispatch` applies the call to the box, `history_answer` and `history_show` put the answer together.
+// a line apart, `lent_calls` applies the call to the box, `history_answer` and `history_show` put the answer together.
 use config::Profile;
 use config::Profiles;
 use config::Settings;
@@ -24,13 +24,13 @@ const LONGEST: usize = 8191;
 
 const AREA: usize = 4096;
 
-// The places of a list of profiles that is lent.
-const LISTED: usize = 17;
-
 const ANSWERS: usize = 65536;
 
 // No answer is longer.
 const ANSWER: usize = 16384;
+
+// The places of a list of profiles that is lent.
+const LISTED: usize = 17;
 
 // The box, and what stands beside it.
 struct Playing {
@@ -45,7 +45,7 @@ struct Notes {
     reading: Reading,
 }
 
-// What a line asks for.
+// What a line asks for, and the notes with what it brought.
 struct Taken {
     notes: Notes,
     task: Task,
@@ -67,6 +67,7 @@ struct Asked {
     area: usize,
 }
 
+// After a part of the input: whether there may be more.
 struct Turn {
     playing: Playing,
     more: bool,
