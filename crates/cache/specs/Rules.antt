@@ -1,7 +1,7 @@
--- Ask, collect and give up (document 01, "Commands (desk)" and "Client cache").
+-- Ask (document 01, "Commands (desk)" and "Client cache"). Collect and give up are `waits`'.
 use mathlib.Core.Bool.{Bool, false, not}
 use mathlib.Core.List.{List, [], _∷_}
-use Prim.Native.Nat.{ℕ, _-_}
+use Prim.Native.Nat.{ℕ}
 use lib.Dec.{ltb, eqb}
 use lib.ListN.{length, getD, replicate}
 use Rattle.base.specs.Choice.{pick}

@@ -1,11 +1,10 @@
 -- How many bytes a text stands for, where it does, is at most the room of the area.
-use mathlib.Core.Bool.{Bool, true, false}
 use mathlib.Core.List.{List, [], _∷_}
 use Prim.Native.Nat.{ℕ, _/_, _≤_}
 use lib.Dec.{eqb, leb}
 use lib.ListN.{length}
 use borrow.Author.Tests.{leb-true}
-use Rattle.base.specs.Choice.{pick, cases}
+use Rattle.base.specs.Choice.{cases}
 use Rattle.hex.specs.declared.Bytes.{Bytes}
 use Rattle.hex.specs.declared.Bytes.the-variants.{Count, Bad, Short}
 use Rattle.hex.specs.Pairs.{isPairs, bytesOf, plainOf, commandOf}

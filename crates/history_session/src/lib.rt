@@ -1,4 +1,4 @@
-// KNOWN, STATE and LEARNT: what is known of the dongle and of its PIDs.
+// KNOWN, STATE, a result's KIND and LEARNT: what is known of the dongle and of its PIDs.
 use hex::Byte;
 use hex::Bytes;
 use history_numbers::FlagToken;

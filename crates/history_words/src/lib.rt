@@ -1,4 +1,4 @@
-// A line's word.
+// A line's first token, its word: the call that it names.
 use obd2::call::Call;
 ghost use mathlib.Core.Path.{_≡_};
 ghost use Rattle.history_words.specs.Words.{rareOf, wordOf};

@@ -19,7 +19,7 @@ use Rattle.obd2.specs.declared.Answer.the-variants.{Refused, Started}
 use Rattle.obd2.specs.declared.State.{State}
 use Rattle.obd2.specs.declared.call.Brought.{Brought}
 use Rattle.obd2.specs.declared.call.Call.the-variants.{ProfilePidsChanged}
-use Rattle.profile_check.specs.Check.{badProfiles, unknownMode}
+use Rattle.profile_check.specs.Check.{unknownMode}
 use Rattle.profile_list.specs.Copied.{copiedOf}
 use Rattle.profile_list.specs.Laws.{longer-refused}
 use Rattle.lent_calls.specs.Bringing.{bringing}

@@ -16,7 +16,7 @@ ghost use Rattle.obd2.specs.History.{step, Fit};
 ghost use Rattle.obd2.specs.Refusals.{startRefusal};
 ghost use Rattle.profile_list.specs.Copied.{copiedOf};
 
-// The box's start.
+// The box's start. A list of more than 16 profiles is refused by 2 (`start-longer`).
 pub fn start(time: u64, settings: Settings, profiles: &[Profile]) -> Answered
     ensures { λ r. ⌜ r ≡ startOf time settings (copiedOf (now (profiles .entry))) ⌝ }
     ensures { λ r. ⌜ numberIn (r .answer) ≡ startRefusal time settings (copiedOf (now (profiles .entry))) ⌝ }
@@ -25,6 +25,7 @@ pub fn start(time: u64, settings: Settings, profiles: &[Profile]) -> Answered
     setup_calls::start(time, settings, held)
 }
 
+// What a call brings, with these profiles in the place of its own.
 fn bringing(mut brought: Brought, profiles: Profiles) -> Brought
     ensures { λ r. ⌜ r ≡ bringing brought profiles ⌝ }
 {

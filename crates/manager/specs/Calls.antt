@@ -13,7 +13,7 @@ use Rattle.control.specs.declared.outbox.Outbox.{Outbox}
 use Rattle.pid_table.specs.Entry.{nobody, speed, waitingOf, promotesOf, consumedOf}
 use Rattle.pid_table.specs.declared.PidInfo.{PidInfo}
 use Rattle.pid_table.specs.declared.WaitDuration.{WaitDuration}
-use Rattle.passes.specs.Laws.{through, news, upkeep}
+use Rattle.passes.specs.Sweep.{through, news, upkeep}
 use Rattle.passes.specs.declared.Ledger.{Ledger}
 use Rattle.passes.specs.declared.Pass.{Pass}
 use Rattle.passes.specs.declared.Pass.the-variants.{Register, Clear}

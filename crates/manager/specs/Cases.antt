@@ -6,8 +6,8 @@ use Prim.Native.Nat.{_-_}
 use Rattle.control.specs.Outbox.{emptyOf, sendAll}
 use Rattle.control.specs.declared.outbox.Outbox.{Outbox}
 use Rattle.pid_table.specs.declared.PidInfo.{PidInfo}
-use Rattle.passes.specs.Sweep.{entryAfter, sweepOf}
-use Rattle.passes.specs.Laws.{through, news, sweepsOf, upkeep, sweeps-are}
+use Rattle.passes.specs.Sweep.{entryAfter, sweepOf, through, news, sweepsOf, upkeep}
+use Rattle.passes.specs.Laws.{sweeps-are}
 use Rattle.passes.specs.declared.Ledger.{Ledger}
 use Rattle.passes.specs.declared.Pass.the-variants.{Register, Clear}
 use Rattle.passes.specs.declared.Terms.{Terms}

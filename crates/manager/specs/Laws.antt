@@ -18,7 +18,8 @@ use Rattle.control.specs.declared.outbox.Outbox.{Outbox}
 use Rattle.pid_table.specs.Entry.{nobody, speed, waitingOf, promotesOf, consumedOf}
 use Rattle.pid_table.specs.declared.PidInfo.{PidInfo}
 use Rattle.pid_table.specs.declared.WaitDuration.{WaitDuration}
-use Rattle.passes.specs.Laws.{through, news, speedAt, through-length, news-append, news-speeds, news-few, upkeep-once, register-once, registering-once}
+use Rattle.passes.specs.Sweep.{through, news}
+use Rattle.passes.specs.Laws.{speedAt, through-length, news-append, news-speeds, news-few, upkeep-once, register-once, registering-once}
 use Rattle.passes.specs.declared.Terms.{Terms}
 use Rattle.report.specs.Metrics.{notedOf}
 use Rattle.manager.specs.Calls.{withTable, registering, maintenance, dueOf, maintainOf, finishOf, noTable, registerOf, startOf, changedOf, entrySet, entryTold, waitingCallOf, consumedCallOf, tickOf}

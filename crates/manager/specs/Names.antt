@@ -5,8 +5,7 @@ use native.Mathlib.Omega.{arith}
 use lib.ListN.{length, getD}
 use Rattle.control.specs.Names.{Named, named-none, named-append, told-named}
 use Rattle.control.specs.Told.{toldOf}
-use Rattle.passes.specs.Laws.{news}
-use Rattle.passes.specs.Sweep.{entryAfter, swept, tidings, swept-length}
+use Rattle.passes.specs.Sweep.{news, entryAfter, swept, tidings, swept-length}
 use Rattle.passes.specs.declared.Pass.{Pass}
 use Rattle.passes.specs.declared.Terms.{Terms}
 use Rattle.pid_table.specs.Entry.{nobody, speed}

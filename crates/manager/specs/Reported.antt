@@ -8,7 +8,8 @@ use Rattle.base.specs.Choice.{one, cases}
 use Rattle.base.specs.Times.{times}
 use Rattle.control.specs.declared.outbox.Outbox.{Outbox}
 use Rattle.pid_table.specs.Entry.{nobody}
-use Rattle.passes.specs.Laws.{through, upkeep, through-length}
+use Rattle.passes.specs.Sweep.{through, upkeep}
+use Rattle.passes.specs.Laws.{through-length}
 use Rattle.passes.specs.declared.Terms.{Terms}
 use Rattle.report.specs.Rates.{listedOf, ratings}
 use Rattle.report.specs.Report.{noReport, reportOf}

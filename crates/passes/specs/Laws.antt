@@ -19,28 +19,11 @@ use Rattle.pid_table.specs.declared.PidInfo.{PidInfo}
 use Rattle.pid_table.specs.declared.Wish.{Wish}
 use Rattle.pid_table.specs.declared.Wish.the-variants.{Unwanted, Wanted}
 use Rattle.passes.specs.Wishes.{wishOf}
-use Rattle.passes.specs.Sweep.{entryAfter, swept, tidings, sweepOf, swept-length, swept-at}
+use Rattle.passes.specs.Sweep.{entryAfter, swept, tidings, sweepOf, through, news, sweepsOf, upkeep, swept-length, swept-at}
 use Rattle.passes.specs.declared.Ledger.{Ledger}
 use Rattle.passes.specs.declared.Terms.{Terms}
 use Rattle.passes.specs.declared.Pass.{Pass}
 use Rattle.passes.specs.declared.Pass.the-variants.{Register, Demote, Remove, Clear}
-
--- The table after passes, the first first, and all that they tell.
-unfoldable pub through : Terms → List Pass → List PidInfo → List PidInfo
-through t [] xs = xs
-through t (a ∷ ps) xs = through t ps (swept (entryAfter a t) 0 xs)
-
-unfoldable pub news : Terms → List Pass → List PidInfo → List DongleMessage
-news t [] xs = []
-news t (a ∷ ps) xs = tidings (entryAfter a t) 0 xs ++ news t ps (swept (entryAfter a t) 0 xs)
-
-unfoldable pub sweepsOf : Terms → List Pass → Ledger → Ledger
-sweepsOf t [] l = l
-sweepsOf t (a ∷ ps) l = sweepsOf t ps (sweepOf (entryAfter a t) l)
-
--- The passes of maintenance up to the report. After it, counts are cleared.
-abbrev pub upkeep : List Pass
-upkeep = Register ∷ Demote ∷ Remove ∷ []
 
 pub sweeps-are : (t : Terms) (ps : List Pass) (l : Ledger)
     → sweepsOf t ps l ≡ record { table = through t ps (l .table); outbox = sendAll (l .outbox) (news t ps (l .table)) }

@@ -39,6 +39,23 @@ tidings f p (x ∷ xs) = toldOf p (speed x) (speed (f p x)) ++ tidings f (suc p)
 unfoldable pub sweepOf : (ℕ → PidInfo → PidInfo) → Ledger → Ledger
 sweepOf f l = record { table = swept f 0 (l .table); outbox = sendAll (l .outbox) (tidings f 0 (l .table)) }
 
+-- The table after passes, the first first, and all that they tell.
+unfoldable pub through : Terms → List Pass → List PidInfo → List PidInfo
+through t [] xs = xs
+through t (a ∷ ps) xs = through t ps (swept (entryAfter a t) 0 xs)
+
+unfoldable pub news : Terms → List Pass → List PidInfo → List DongleMessage
+news t [] xs = []
+news t (a ∷ ps) xs = tidings (entryAfter a t) 0 xs ++ news t ps (swept (entryAfter a t) 0 xs)
+
+unfoldable pub sweepsOf : Terms → List Pass → Ledger → Ledger
+sweepsOf t [] l = l
+sweepsOf t (a ∷ ps) l = sweepsOf t ps (sweepOf (entryAfter a t) l)
+
+-- The passes of maintenance up to the report. After it, counts are cleared.
+abbrev pub upkeep : List Pass
+upkeep = Register ∷ Demote ∷ Remove ∷ []
+
 -- A pass that has come to PID i: what is left of it.
 unfoldable pub sweepFrom : (ℕ → PidInfo → PidInfo) → ℕ → Ledger → Ledger
 sweepFrom f i l = record {

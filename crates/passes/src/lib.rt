@@ -10,8 +10,7 @@ use pid_table::Wish;
 ghost use mathlib.Core.Path.{_≡_};
 ghost use Rattle.config.specs.InForce.{inForce};
 ghost use Rattle.passes.specs.Wishes.{countsOf, priorityOf, wishedBy, joined, wishOf};
-ghost use Rattle.passes.specs.Sweep.{entryAfter, sweepOf};
-ghost use Rattle.passes.specs.Laws.{sweepsOf, upkeep};
+ghost use Rattle.passes.specs.Sweep.{entryAfter, sweepOf, sweepsOf, upkeep};
 
 // The table, and what is to be sent because of its changes.
 pub struct Ledger {

@@ -30,8 +30,7 @@ use Rattle.link.specs.declared.FeatureSupport.the-variants.{Unknown}
 use Rattle.link.specs.declared.Session.{Session}
 use Rattle.manager.specs.Calls.{dueOf, finishOf, noTable, tickOf}
 use Rattle.manager.specs.Calls.{startOf as startManager}
-use Rattle.passes.specs.Laws.{news}
-use Rattle.passes.specs.Sweep.{entryAfter, tidings}
+use Rattle.passes.specs.Sweep.{news, entryAfter, tidings}
 use Rattle.passes.specs.Wishes.{wishOf}
 use Rattle.pid_table.specs.Entry.{speed}
 use Rattle.pid_table.specs.Entry.{registeredOf as entryRegistered}

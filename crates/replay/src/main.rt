@@ -1,5 +1,6 @@
-// Runs the box from text: a call a line in, an answer a line out, as history-format.md has them. `history` takes
-// a line apart, `lent_calls` applies the call to the box, `history_answer` and `history_show` put the answer together.
+// Runs the box from text: a call a line in, an answer a line out, as history-format.md has them. `history` takes a
+// line apart, `lent_calls` starts the box and applies a call to it, `history_answer` and `history_show` put the answer
+// together.
 use config::Profile;
 use config::Profiles;
 use config::Settings;
@@ -26,10 +27,11 @@ const AREA: usize = 4096;
 
 const ANSWERS: usize = 65536;
 
-// No answer is longer.
+// No answer is longer: a call's has at most 4,096 bytes (`answer-whole`), that of `show` 8,192 (`show-whole`).
 const ANSWER: usize = 16384;
 
-// The places of a list of profiles that is lent.
+// The places of the list of profiles that is lent: one more than the box takes, so that a longer list is told from one
+// of 16.
 const LISTED: usize = 17;
 
 // The box, and what stands beside it.
@@ -67,7 +69,7 @@ struct Asked {
     area: usize,
 }
 
-// After a part of the input: whether there may be more.
+// The box after a part of the input, and whether there may be more of it.
 struct Turn {
     playing: Playing,
     more: bool,
@@ -79,7 +81,7 @@ fn least(a: usize, b: usize) -> usize
     if a < b { a } else { b }
 }
 
-// Before the first start the box is the one that a refused start gives.
+// Before the first start the box is the one that a refused start gives: no box starts at so late a time.
 fn first() -> Playing {
     let brought = history::nothing();
     let profiles = brought.profiles;
@@ -109,7 +111,7 @@ fn delivered(call: Call, mut response: Response) -> Response {
     }
 }
 
-// The profiles that a line has, as a list that can be lent: one place more than the box takes, for a line with too many.
+// The profiles that a line has, as a list that can be lent.
 fn listed(profiles: Profiles) -> [Profile; LISTED] {
     let none = Profile {
         kind: 0,
@@ -128,6 +130,7 @@ fn listed(profiles: Profiles) -> [Profile; LISTED] {
     list
 }
 
+// How many of the list are lent: 17 stands for every line with more than 16.
 fn listed_count(profiles: Profiles) -> usize
     ensures { λ r. ⌜ r ≤ 17 ⌝ }
 {
@@ -141,7 +144,7 @@ fn lend_start(time: u64, settings: Settings, profiles: Profiles) -> Answered {
     lent_calls::start(time, settings, &list[..n])
 }
 
-// A call, with the profiles lent.
+// A call, with the profiles lent that the line brought; `lent_calls` puts them in the place of those in `brought`.
 fn lend_call(
     state: State,
     time: u64,
@@ -156,7 +159,7 @@ fn lend_call(
     lent_calls::call(state, time, call, &list[..n], brought, cmd, area)
 }
 
-// Applies a call to the box. It is lent the bytes of its command and its area, as long as the line has them.
+// Applies a call to the box. It is lent the bytes of its command, and as much of the area as the line says.
 fn apply(state: State, asked: Asked, brought: Brought, bytes: &[u8], area: &mut [u8]) -> Answered {
     let n = least(asked.cmd, bytes.len());
     let m = least(asked.area, area.len());
@@ -293,8 +296,8 @@ fn take_line(
     read_line(notes, &line[..len], read.long, round, bytes, out)
 }
 
-// Answers each line that ends in a part of the input. The box changes hands here alone: each function that it passes
-// through costs a copy of it.
+// Answers each line that ends in a part of the input. From here the box goes into a call and comes back, and nowhere
+// else: each function that it passes through costs a copy of it.
 fn answer_part(
     playing: Playing,
     input: &[u8],
@@ -335,6 +338,7 @@ fn answer_part(
     Playing { state, notes }
 }
 
+// Reads a part of the input and answers it.
 fn read_part(
     playing: Playing,
     line: &mut [u8],

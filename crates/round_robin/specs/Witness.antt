@@ -21,8 +21,7 @@ use Rattle.control_line.specs.Ring.{emptyLine, pushOf, pushAllOf, takeOf}
 use Rattle.link.specs.Rules.{noRange, noRanges, startLink, unknownFeatures, connectOf as linkUp}
 use Rattle.link.specs.declared.Session.{Session}
 use Rattle.manager.specs.Calls.{noTable, startOf as startManager}
-use Rattle.passes.specs.Laws.{through, news}
-use Rattle.passes.specs.Sweep.{entryAfter, swept, tidings}
+use Rattle.passes.specs.Sweep.{through, news, entryAfter, swept, tidings}
 use Rattle.passes.specs.Wishes.{countsOf, priorityOf, wishedBy, wishOf, joined as joinedWish}
 use Rattle.pid_list.specs.Members.{empty-sound, remove-sound, set-sound}
 use Rattle.pid_list.specs.Rules.{sizeOf, entries, emptyList, place, wrap, swapOut, appendOf, fitOf, removeOf, setOf, nextOf as nextPid}

@@ -1,4 +1,4 @@
-use Rattle.passes.specs.Laws.{sweepsOf}
+use Rattle.passes.specs.Sweep.{sweepsOf}
 use borrow.Author.Needs.{needs}
 use Rattle.passes.proofs.upkeep.Statement.{statement}
 use Rattle.passes.proofs.upkeep.Tie as tie
