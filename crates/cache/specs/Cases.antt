@@ -14,11 +14,11 @@ use Rattle.command.specs.Classify.{commandOf}
 use Rattle.command.specs.declared.Command.the-variants as command
 use Rattle.desk.specs.Rules.{registered, clientOf, fresh, waitOf, stored, putClient}
 use Rattle.desk.specs.declared.Desk.{Desk}
-use Rattle.reply.specs.Rules.{emptyReply, sizeOf, filledOf}
+use Rattle.reply.specs.Rules.{emptyReply, noRange, sizeOf, filledOf}
 use Rattle.reply.specs.Laws.{size-empty}
 use Rattle.reply.specs.declared.Reply.{Reply}
 use Rattle.reply.specs.declared.RangeReply.{RangeReply}
-use Rattle.cache.specs.Rules.{numberIn, rangeCount, noRange, rangeOf, rangeStep, commandStep, stepOf, refusedAsk, toldOf, settled, filledBy, otherRefusal, otherOf, otherArea, answerOf, handedOf, afterAsk, busy, askRefusal, askOf, askArea}
+use Rattle.cache.specs.Rules.{numberIn, rangeCount, rangeOf, rangeStep, commandStep, stepOf, refusedAsk, toldOf, settled, filledBy, otherRefusal, otherOf, otherArea, answerOf, handedOf, afterAsk, busy, askRefusal, askOf, askArea}
 use Rattle.cache.specs.declared.Step.{Step}
 use Rattle.cache.specs.declared.Step.the-variants.{Disconnected, Empty, Unclear, Stored, ToCache}
 use Rattle.cache.specs.declared.Answer.{Answer}

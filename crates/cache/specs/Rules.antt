@@ -12,7 +12,7 @@ use Rattle.command.specs.declared.Command.{Command}
 use Rattle.command.specs.declared.Command.the-variants as command
 use Rattle.desk.specs.Rules.{registered, clientOf, fresh, waitOf, stored, putClient}
 use Rattle.desk.specs.declared.Desk.{Desk}
-use Rattle.reply.specs.Rules.{maxLines, emptyReply, noReply, sizeOf, filledOf}
+use Rattle.reply.specs.Rules.{maxLines, emptyReply, absentRange, noRange, sizeOf, filledOf}
 use Rattle.reply.specs.declared.Reply.{Reply}
 use Rattle.reply.specs.declared.RangeReply.{RangeReply}
 use Rattle.cache.specs.declared.Step.{Step}
@@ -41,15 +41,12 @@ handsOut Unknown q = false
 handsOut Range q = false
 handsOut (Waiting p) q = false
 
--- How many ranges there are, and what stands past the last.
+-- How many ranges there are. Past the last one, a range is absent.
 abbrev pub rangeCount : ℕ
 rangeCount = 8
 
-abbrev pub noRange : RangeReply
-noRange = record { present = false; reply = noReply }
-
 unfoldable pub rangeOf : List RangeReply → ℕ → RangeReply
-rangeOf rs n = pick (ltb n rangeCount) (getD rs n noRange) (record { present = false; reply = emptyReply })
+rangeOf rs n = pick (ltb n rangeCount) (getD rs n noRange) absentRange
 
 -- The steps, in order: no connection, or ranges not ready; a range's stored reply, absent or without lines; not understood; a PID.
 unfoldable pub rangeStep : ℕ → RangeReply → Step

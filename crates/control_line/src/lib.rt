@@ -48,7 +48,7 @@ pub fn free(count: u16) -> u16
 }
 
 // The message behind the others; in a full line nothing changes.
-pub fn push(mut line: ControlLine, message: DongleMessage) -> ControlLine
+fn push(mut line: ControlLine, message: DongleMessage) -> ControlLine
     ensures { λ r. ⌜ r ≡ pushOf line message ⌝ }
 {
     if line.count < 1024 {

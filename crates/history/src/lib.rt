@@ -19,8 +19,7 @@ ghost use Rattle.history.specs.Lines.{nothingBrought, untimedOf, parsedO
 pub fn nothing() -> Brought
     ensures { λ r. ⌜ r ≡ nothingBrought ⌝ }
 {
-    let ranges = history_dongle::no_ranges();
-    let known = history_session::none_known();
+    let ranges = link::no_ranges();
     let learnt = history_dongle::nothing_learnt();
     let features = Features {
         multi: FeatureSupport::Unknown,
@@ -31,7 +30,7 @@ pub fn nothing() -> Brought
         session: Session {
             features,
             ranges,
-            known,
+            known: [false; 256],
         },
         outcome: Outcome {
             kind: Kind::Replied,

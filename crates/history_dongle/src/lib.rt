@@ -6,7 +6,6 @@ use rounds::Learnt;
 ghost use mathlib.Core.Path.{_≡_};
 ghost use Prim.Native.Nat.{_<_};
 ghost use Rattle.history_items.specs.Items.{itemsOf};
-ghost use Rattle.link.specs.Rules.{noRanges};
 ghost use Rattle.history_dongle.specs.Lists.{noLearnt, rangeOnto, learntOnto, emptyRanges, rangesOf, noLessons, learntsOf};
 
 // The ranges, and how many tokens there are.
@@ -21,17 +20,6 @@ pub struct LearntRead {
     pub learnt: [Learnt; 6],
     pub count: usize,
     pub good: bool,
-}
-
-pub fn no_ranges() -> [RangeReply; 8]
-    ensures { λ r. ⌜ r ≡ noRanges ⌝ }
-{
-    let none = reply::empty();
-    let absent = RangeReply {
-        present: false,
-        reply: none,
-    };
-    [absent; 8]
 }
 
 pub fn nothing_learnt() -> [Learnt; 6]
@@ -73,7 +61,7 @@ fn add_learnt(mut read: LearntRead, l: Learnt) -> LearntRead
 fn empty_ranges(good: bool) -> RangesRead
     ensures { λ r. ⌜ r ≡ emptyRanges good ⌝ }
 {
-    let ranges = no_ranges();
+    let ranges = link::no_ranges();
     RangesRead {
         ranges,
         count: 0,

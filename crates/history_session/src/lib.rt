@@ -33,7 +33,7 @@ pub enum LearntToken {
 }
 
 // No PID's length is known.
-pub fn none_known() -> [bool; 256]
+fn none_known() -> [bool; 256]
     ensures { λ r. ⌜ r ≡ noneKnown ⌝ }
 {
     [false; 256]

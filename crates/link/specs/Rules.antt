@@ -5,6 +5,7 @@ use Prim.Native.Nat.{ℕ, _-_}
 use lib.Dec.{leb, eqb}
 use lib.ListN.{replicate}
 use Rattle.base.specs.Choice.{pick}
+use Rattle.reply.specs.Rules.{absentRange}
 use Rattle.reply.specs.declared.RangeReply.{RangeReply}
 use Rattle.link.specs.declared.FeatureSupport.{FeatureSupport}
 use Rattle.link.specs.declared.FeatureSupport.the-variants.{Unknown, Yes, No}
@@ -25,11 +26,8 @@ stateNumber No = 2
 abbrev pub isNo : FeatureSupport → Bool
 isNo x = eqb (stateNumber x) 2
 
-abbrev pub noRange : RangeReply
-noRange = record { present = false; reply = record { lines = 0; lengths = replicate 8 0; bytes = replicate 64 0 } }
-
 unfoldable pub noRanges : List RangeReply
-noRanges = replicate 8 noRange
+noRanges = replicate 8 absentRange
 
 abbrev pub unknownFeatures : Features
 unknownFeatures = record { multi = Unknown }

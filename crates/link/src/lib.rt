@@ -1,6 +1,5 @@
 // The connection to the dongle, and what is known of the dongle while it stands.
 use reply::RangeReply;
-use reply::Reply;
 ghost use mathlib.Core.Path.{_≡_};
 ghost use Rattle.link.specs.Rules.{startLink, noRanges, isNo, connectOf, failOf, lossOf, restedOf, reconnectOf};
 
@@ -59,17 +58,13 @@ pub struct Checked {
 const RECONNECT_DELAY: u64 = 1000;
 
 // Eight ranges of which nothing is known.
-fn no_ranges() -> [RangeReply; 8]
+pub fn no_ranges() -> [RangeReply; 8]
     ensures { λ r. ⌜ r ≡ noRanges ⌝ }
 {
-    let reply = Reply {
-        lines: 0,
-        lengths: [0u8; 8],
-        bytes: [0u8; 64],
-    };
+    let none = reply::empty();
     let absent = RangeReply {
         present: false,
-        reply: reply,
+        reply: none,
     };
     [absent; 8]
 }

@@ -19,12 +19,6 @@ use Rattle.poller.specs.Numbers.{connectNumber, checkNumber}
 use Rattle.poller.specs.State.{openOf}
 use Rattle.poller.specs.declared.Check.{Check}
 use Rattle.poller.specs.declared.Connecting.{Connecting}
-use Rattle.reply.specs.Rules.{noReply}
-use Rattle.reply.specs.declared.RangeReply.{RangeReply}
-
--- What a read past the end of the ranges would give.
-abbrev pub noRange : RangeReply
-noRange = record { present = false; reply = noReply }
 
 -- The poller's numbers are the box's.
 check-number : (x : Check) → numberIn (checkAnswer x) ≡ checkNumber x

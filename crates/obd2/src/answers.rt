@@ -31,7 +31,7 @@ pub fn crowded(waiting: u16, sent: u16) -> bool
     control_line::free(waiting) < sent
 }
 
-pub fn reporting(report: Report) -> Details
+fn reporting(report: Report) -> Details
     ensures { λ r. ⌜ r ≡ reporting report ⌝ }
 {
     let query = poller::no_query();

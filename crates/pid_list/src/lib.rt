@@ -50,7 +50,7 @@ pub fn row(pid: u8) -> usize
 }
 
 // The first place of pid among the first `len` of `pids`, or how many these are.
-pub fn find(pids: &[u8], len: usize, pid: u8) -> usize
+fn find(pids: &[u8], len: usize, pid: u8) -> usize
     ensures { λ r. ⌜ r ≡ place (take len (now (pids .entry))) pid ⌝ }
 {
     let n = if len < pids.len() { len } else { pids.len() };

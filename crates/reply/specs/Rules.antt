@@ -1,10 +1,11 @@
 -- What a reply is worth: its lines, its bytes, and the number that it stands for (document 01, "Client cache").
-use mathlib.Core.Bool.{Bool, _&&_}
+use mathlib.Core.Bool.{Bool, false, _&&_}
 use mathlib.Core.List.{List, [], _∷_, _++_}
 use Prim.Native.Nat.{ℕ, _+_, _-_, _*_, min}
 use lib.Dec.{ltb, leb}
 use lib.ListN.{length, getD, take, drop, replicate}
 use Rattle.base.specs.Choice.{pick}
+use Rattle.reply.specs.declared.RangeReply.{RangeReply}
 use Rattle.reply.specs.declared.Reply.{Reply}
 
 -- The limits of a reply, and of a response: refusal 3.
@@ -23,6 +24,13 @@ emptyReply = record { lines = 0; lengths = replicate maxLines 0; bytes = replica
 
 abbrev pub noReply : Reply
 noReply = record { lines = 0; lengths = []; bytes = [] }
+
+-- A range of which nothing is known; and what a list of ranges has past its end.
+abbrev pub absentRange : RangeReply
+absentRange = record { present = false; reply = emptyReply }
+
+abbrev pub noRange : RangeReply
+noRange = record { present = false; reply = noReply }
 
 unfoldable pub sumOf : List ℕ → ℕ
 sumOf [] = 0

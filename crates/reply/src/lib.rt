@@ -52,7 +52,7 @@ fn counted(lines: u8) -> usize
 }
 
 // The bytes of all lines together.
-pub fn total(r: Reply) -> usize
+fn total(r: Reply) -> usize
     ensures { λ n. ⌜ n ≡ totalOf r ⌝ }
 {
     let n = counted(r.lines);

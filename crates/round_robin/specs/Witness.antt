@@ -18,7 +18,7 @@ use Rattle.config.specs.declared.Settings.{Settings}
 use Rattle.control.specs.Outbox.{emptyOf, sendAll, messages, pushOf as pushOut}
 use Rattle.control.specs.Told.{toldOf}
 use Rattle.control_line.specs.Ring.{emptyLine, pushOf, pushAllOf, takeOf}
-use Rattle.link.specs.Rules.{noRange, noRanges, startLink, unknownFeatures, connectOf as linkUp}
+use Rattle.link.specs.Rules.{noRanges, startLink, unknownFeatures, connectOf as linkUp}
 use Rattle.link.specs.declared.Session.{Session}
 use Rattle.manager.specs.Calls.{noTable, startOf as startManager}
 use Rattle.passes.specs.Sweep.{through, news, entryAfter, swept, tidings}
@@ -32,7 +32,7 @@ use Rattle.poll_laws.specs.Lists.{Both}
 use Rattle.poller.specs.Calls.{multiAllowed, appliedOf, connectOf as connectPoller, beginOf as beginPoller}
 use Rattle.rounds.specs.Next.{moreOf, issueOf, endOf, slowDue, slowOf, firstOf as firstPoller, nextOf as nextPoller}
 use Rattle.rounds.specs.Result.{nothing, keepOf, teachOf, teachAll, learnOf, linkAfter, roundAfter, resultOf as resultPoller}
-use Rattle.poller.specs.State.{pidsOf, startOf as startPoller}
+use Rattle.poller.specs.State.{openOf, pidsOf, startOf as startPoller}
 use Rattle.rounds.specs.declared.Kind.{Kind}
 use Rattle.rounds.specs.declared.Kind.the-variants.{Replied, TimedOut}
 use Rattle.rounds.specs.declared.Outcome.{Outcome}
@@ -60,7 +60,7 @@ abbrev pub second : Settings
 second = record { mode = 1; interval = 450; ratio = 2; promotion = 40; demotion = 2000; removal = 4000; multi = false; maxpids = 6 }
 
 abbrev session : Session
-session = record { features = unknownFeatures; ranges = replicate 8 noRange; known = replicate 256 false }
+session = record { features = unknownFeatures; ranges = noRanges; known = replicate 256 false }
 
 abbrev outcome : Kind → Outcome
 outcome kind = record { kind = kind; features = unknownFeatures; learnt = replicate 6 nothing }
@@ -87,35 +87,6 @@ calls =
     ∷ result 13 (outcome Replied)
     ∷ next 14
     ∷ []
-
-pub asks-both : rounds (happened box calls) ≡ (12 ∷ []) ∷ (12 ∷ 5 ∷ []) ∷ []
-unfolding roundsIn startOf startRefusal started startManager noTable through news entryAfter swept tidings countsOf priorityOf wishedBy wishOf joinedWish inForce isFast speed registeredOf toldOf emptyOf sendAll messages pushOut pushAllOf pushOf emptyLine unknownMode unknownOf many badProfiles run step takeControlOf connectOf closedRefusal connectRefusal badTime overRange withinOf sumOf countedOf lengthsOf totalOf firstOf someOf takeOf appliedOf setOf removeOf fitOf swapOut appendOf place entries sizeOf wrap emptyList connectPoller linkUp startLink noRanges startPoller happened beginOf nextOf resultOf nextRefusal resultRefusal nextPid beginPoller nextPoller firstPoller slowOf slowDue issueOf endOf moreOf padded keepOf teachOf teachAll learnOf linkAfter roundAfter resultPoller pidsOf Rattle.manager.specs.Calls.registerOf
-asks-both = refl
-
-pub lists-are : (entries (box .poller .fast) ≡ 12 ∷ []) × (entries (box .poller .slow) ≡ 5 ∷ []) × (box .settings ≡ second)
-unfolding startOf startRefusal started startManager noTable through news entryAfter swept tidings countsOf priorityOf wishedBy wishOf joinedWish inForce isFast speed registeredOf toldOf emptyOf sendAll messages pushOut pushAllOf pushOf emptyLine unknownMode unknownOf many badProfiles run step takeControlOf connectOf closedRefusal connectRefusal badTime overRange withinOf sumOf countedOf lengthsOf totalOf firstOf someOf takeOf appliedOf setOf removeOf fitOf swapOut appendOf place entries sizeOf wrap emptyList connectPoller linkUp startLink noRanges startPoller Rattle.manager.specs.Calls.registerOf
-lists-are = (refl, refl, refl)
-
--- The hypotheses within the claim: Ratio mode, a PID in each list, and as many rounds as both stretches need.
-pub stretches : (box .settings .mode ≡ 0 → ⊥)
-    × (0 < times 12 (entries (box .poller .fast)))
-    × (0 < times 5 (entries (box .poller .slow)))
-    × (0 + length (entries (box .poller .fast)) ≤ length (rounds (happened box calls)))
-    × (0 + length (entries (box .poller .slow)) * max 1 (box .settings .ratio) ≤ length (rounds (happened box calls)))
-unfolding times
-stretches = rw (asks-both, lists-are .0, lists-are .1, lists-are .2) ((λ e. omega arith), omega arith, omega arith, omega arith, omega arith)
-
--- ---- the hypotheses
-
-set-by : (box .poller .fast ≡ setOf (removeOf emptyList 5) 12) × (box .poller .slow ≡ removeOf (setOf emptyList 5) 12)
-unfolding startOf startRefusal started startManager noTable through news entryAfter swept tidings countsOf priorityOf wishedBy wishOf joinedWish inForce isFast speed registeredOf toldOf emptyOf sendAll messages pushOut pushAllOf pushOf emptyLine unknownMode unknownOf many badProfiles run step takeControlOf connectOf closedRefusal connectRefusal badTime overRange withinOf sumOf countedOf lengthsOf totalOf firstOf someOf takeOf appliedOf setOf removeOf fitOf swapOut appendOf place entries sizeOf wrap emptyList connectPoller linkUp startLink noRanges startPoller Rattle.manager.specs.Calls.registerOf
-set-by = (refl, refl)
-
-sound : Both (box .poller .fast) (box .poller .slow)
-sound = record {
-  fast-sound = rw (set-by .0) (set-sound (removeOf emptyList 5) 12 (remove-sound emptyList 5 empty-sound) (omega arith));
-  slow-sound = rw (set-by .1) (remove-sound (setOf emptyList 5) 12 (set-sound emptyList 5 empty-sound (omega arith)));
-}
 
 abbrev isControl : Answer → Bool
 isControl (answer.Refused n) = false
@@ -210,13 +181,55 @@ all-quiet : (k : Seen) (h : List Event) → allPass k h ≡ true → Steady k h
 all-quiet k [] e = none
 all-quiet k (x ∷ h) e = more (quiet k x (both-left (passes k x) (allPass (seen k x) h) e)) (all-quiet (seen k x) h (both-right (passes k x) (allPass (seen k x) h) e))
 
-all-pass : allPass (seenAt box) (happened box calls) ≡ true
-unfolding startOf startRefusal started startManager noTable through news entryAfter swept tidings countsOf priorityOf wishedBy wishOf joinedWish inForce isFast speed registeredOf toldOf emptyOf sendAll messages pushOut pushAllOf pushOf emptyLine unknownMode unknownOf many badProfiles run step takeControlOf connectOf closedRefusal connectRefusal badTime overRange withinOf sumOf countedOf lengthsOf totalOf firstOf someOf takeOf appliedOf setOf removeOf fitOf swapOut appendOf place entries sizeOf wrap emptyList connectPoller linkUp startLink noRanges startPoller happened beginOf nextOf resultOf nextRefusal resultRefusal nextPid beginPoller nextPoller firstPoller slowOf slowDue issueOf endOf moreOf padded keepOf teachOf teachAll learnOf linkAfter roundAfter resultPoller pidsOf Rattle.manager.specs.Calls.registerOf
-all-pass = refl
+-- What the history comes to.
+record Computed : Type 0 where
+  asks-both : rounds (happened box calls) ≡ (12 ∷ []) ∷ (12 ∷ 5 ∷ []) ∷ []
+  fast-is : entries (box .poller .fast) ≡ 12 ∷ []
+  slow-is : entries (box .poller .slow) ≡ 5 ∷ []
+  fast-set : box .poller .fast ≡ setOf (removeOf emptyList 5) 12
+  slow-set : box .poller .slow ≡ removeOf (setOf emptyList 5) 12
+  settings-are : box .settings ≡ second
+  closed : openOf (box .poller .round .phase) ≡ false
+  up : box .poller .link .connected ≡ true
+  all-pass : allPass (seenAt box) (happened box calls) ≡ true
+
+computed : Computed
+unfolding roundsIn startOf startRefusal started startManager noTable through news entryAfter swept tidings countsOf priorityOf wishedBy wishOf joinedWish inForce isFast speed registeredOf toldOf emptyOf sendAll messages pushOut pushAllOf pushOf emptyLine unknownMode unknownOf many badProfiles run step takeControlOf connectOf closedRefusal connectRefusal badTime overRange withinOf sumOf countedOf lengthsOf totalOf firstOf someOf takeOf appliedOf setOf removeOf fitOf swapOut appendOf place entries sizeOf wrap emptyList connectPoller linkUp startLink noRanges startPoller happened beginOf nextOf resultOf nextRefusal resultRefusal nextPid beginPoller nextPoller firstPoller slowOf slowDue issueOf endOf moreOf padded keepOf teachOf teachAll learnOf linkAfter roundAfter resultPoller pidsOf Rattle.manager.specs.Calls.registerOf
+computed = record {
+  asks-both = refl;
+  fast-is = refl;
+  slow-is = refl;
+  fast-set = refl;
+  slow-set = refl;
+  settings-are = refl;
+  closed = refl;
+  up = refl;
+  all-pass = refl;
+}
+
+-- The hypotheses within the claim: Ratio mode, a PID in each list, and as many rounds as both stretches need.
+pub stretches : (box .settings .mode ≡ 0 → ⊥)
+    × (0 < times 12 (entries (box .poller .fast)))
+    × (0 < times 5 (entries (box .poller .slow)))
+    × (0 + length (entries (box .poller .fast)) ≤ length (rounds (happened box calls)))
+    × (0 + length (entries (box .poller .slow)) * max 1 (box .settings .ratio) ≤ length (rounds (happened box calls)))
+unfolding times
+stretches = rw (computed .asks-both, computed .fast-is, computed .slow-is, computed .settings-are) ((λ e. omega arith), omega arith, omega arith, omega arith, omega arith)
+
+sound : Both (box .poller .fast) (box .poller .slow)
+sound = record {
+  fast-sound = rw (computed .fast-set) (set-sound (removeOf emptyList 5) 12 (remove-sound emptyList 5 empty-sound) (omega arith));
+  slow-sound = rw (computed .slow-set) (remove-sound (setOf emptyList 5) 12 (set-sound emptyList 5 empty-sound (omega arith)));
+}
 
 pub given : Given box calls
-unfolding startOf startRefusal started startManager noTable through news entryAfter swept tidings countsOf priorityOf wishedBy wishOf joinedWish inForce isFast speed registeredOf toldOf emptyOf sendAll messages pushOut pushAllOf pushOf emptyLine unknownMode unknownOf many badProfiles run step takeControlOf connectOf closedRefusal connectRefusal badTime overRange withinOf sumOf countedOf lengthsOf totalOf firstOf someOf takeOf appliedOf setOf removeOf fitOf swapOut appendOf place entries sizeOf wrap emptyList connectPoller linkUp startLink noRanges startPoller Rattle.manager.specs.Calls.registerOf
-given = record { closed = refl; lists = sound; up = refl; fits = omega arith; steady = all-quiet (seenAt box) (happened box calls) all-pass }
+given = record {
+  closed = computed .closed;
+  lists = sound;
+  up = computed .up;
+  fits = rw (computed .settings-are) (omega arith);
+  steady = all-quiet (seenAt box) (happened box calls) (computed .all-pass);
+}
 
 pub since-start : Since 0 second two opening calls
 since-start = given-since 0 second two opening calls given

@@ -15,7 +15,7 @@ pub fn pair(out: &mut [u8], at: usize, b: u8) -> usize
 }
 
 // Bytes as pairs, one behind the other.
-pub fn pairs(out: &mut [u8], at: usize, bytes: &[u8]) -> usize
+fn pairs(out: &mut [u8], at: usize, bytes: &[u8]) -> usize
     ensures { λ r. ⌜ Wrote (now (out .entry)) at (hexText (now (bytes .entry))) (now (out .exit)) r ⌝ }
 {
     let mut place = at;

@@ -4,7 +4,7 @@ use mathlib.Core.Path.{_≡_, refl, sym, _∙_}
 use lib.ListN.{length, drop}
 use Rattle.base.specs.Each.{someOf, some-here, some-next, some-end}
 use Rattle.obd2.specs.Refusals.{overRange}
-use Rattle.link_calls.specs.Cases.{noRange}
+use Rattle.reply.specs.Rules.{noRange}
 use borrow.Author.Needs.{needs}
 use Rattle.link_calls.proofs.any_over.Statement.{statement}
 use Rattle.link_calls.proofs.any_over.Tie as tie
