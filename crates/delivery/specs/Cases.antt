@@ -1,27 +1,24 @@
 -- Each definition of `Rules`, case by case: what the proofs of the functions and of the laws cite.
 use mathlib.Core.Bool.{Bool, true, false}
-use mathlib.Core.List.{List, map}
+use mathlib.Core.List.{List}
 use mathlib.Core.Path.{_≡_}
 use Prim.Native.Nat.{ℕ, suc, _+_, _-_, _/_, _<_, _≤_}
 use native.Mathlib.Omega.{arith}
 use native.Mathlib.Numerals.{add-one}
 use lib.Dec.{ltb, leb, eqb}
-use lib.ListN.{length, set, getD, take, drop, length-take, drop-of-length-le}
+use lib.ListN.{length, getD, take, drop, length-take, drop-of-length-le}
 use lib.Seq.{drop-cons, getD-take}
 use borrow.Author.Tests.{ltb-false}
 use Rattle.base.specs.Both.{never}
 use Rattle.base.specs.Choice.{cases}
 use Rattle.base.specs.Each.{someOf}
 use Rattle.base.specs.Refusal.{firstOf}
-use Rattle.clients.specs.Rules.{markedOf}
-use Rattle.clients.specs.declared.Client.{Client}
 use Rattle.config.specs.declared.Profiles.{Profiles}
 use Rattle.desk.specs.declared.Desk.{Desk}
+use Rattle.desk.specs.declared.Revs.{Revs}
 use Rattle.reply.specs.Rules.{maxPids}
-use Rattle.reply.specs.declared.Reply.{Reply}
 use Rattle.reply.specs.declared.Response.{Response}
-use Rattle.triggers.specs.Rules.{switchOf, noticeOf}
-use Rattle.delivery.specs.Rules.{rpm, listedOf, risingFrom, over, unfit, responseRefusal, revsAfter, deliverOf, pidAt, replyAt, valueAt, turnOf, turnsOf, unanswered, responseOf}
+use Rattle.delivery.specs.Rules.{rpm, listedOf, risingFrom, over, unfit, responseRefusal, revsAfter, turnOf, turnsOf, unanswered, responseOf}
 use Rattle.delivery.specs.declared.Answered.{Answered}
 
 pub listed-le : (n : ℕ) → listedOf n ≤ maxPids
@@ -55,23 +52,14 @@ module _ (xs : List ℕ) (least i : ℕ) where
   unfolding risingFrom
   rising-end h = rw (drop-of-length-le xs h)
 
-module _ (p : ℕ) (r : Reply) (v : ℕ) (d : Desk) (cs : List Client) (e : cs ≡ map (markedOf p) (d .clients)) where
-  pub deliver-revs : eqb p rpm ≡ true
-      → record { clients = cs; store = set (d .store) p r; given = d .given; revs = record { known = true; value = v / 4 } } ≡ deliverOf p r v d
-  unfolding deliverOf revsAfter
-  deliver-revs f = rw (e, f)
+module _ (p v : ℕ) (old : Revs) where
+  pub revs-of-rpm : eqb p rpm ≡ true → revsAfter p v old ≡ record { known = true; value = v / 4 }
+  unfolding revsAfter
+  revs-of-rpm e = rw e
 
-  pub deliver-other : eqb p rpm ≡ false
-      → record { clients = cs; store = set (d .store) p r; given = d .given; revs = d .revs } ≡ deliverOf p r v d
-  unfolding deliverOf revsAfter
-  deliver-other f = rw (e, f)
-
--- A turn, from what its parts answer.
-pub turn-is : (r : Response) (i : ℕ) (a : Answered) (v : ℕ) (d : Desk) (ps : Profiles) (n : Bool)
-    → v ≡ valueAt r i → d ≡ deliverOf (pidAt r i) (replyAt r i) v (a .desk) → ps ≡ switchOf (pidAt r i) v (a .profiles) → n ≡ noticeOf (pidAt r i) v (a .profiles)
-    → record { desk = d; profiles = ps; refusal = a .refusal; values = set (a .values) i v; notices = set (a .notices) i n } ≡ turnOf r i a
-unfolding turnOf
-turn-is r i a v d ps n e f g h = rw (f, g, h, e)
+  pub revs-of-other : eqb p rpm ≡ false → revsAfter p v old ≡ old
+  unfolding revsAfter
+  revs-of-other e = rw e
 
 module _ (r : Response) where
   pub unfit-many : ltb maxPids (r .count) ≡ true → unfit r ≡ true

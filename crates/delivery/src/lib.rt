@@ -1,15 +1,16 @@
 // What a response of the dongle does (the Rust's update_client_caches, and what its caller makes of each reply).
+use clients::Client;
 use config::Profiles;
 use desk::Desk;
 use desk::Revs;
-use reply::Reply;
 use reply::Response;
 ghost use mathlib.Core.Path.{_≡_};
 ghost use Prim.Native.Nat.{_<_};
 ghost use lib.ListN.{take};
 ghost use Rattle.base.specs.Each.{someOf};
 ghost use Rattle.reply.specs.Rules.{maxPids};
-ghost use Rattle.delivery.specs.Rules.{listedOf, risingFrom, over, unfit, deliverOf, turnOf, responseOf};
+ghost use Rattle.delivery.specs.Beside.{together, Turned};
+ghost use Rattle.delivery.specs.Rules.{listedOf, risingFrom, over, unfit, revsAfter, responseOf};
 
 // The PID whose value is four times the engine's revs.
 const RPM: u8 = 0x0C;
@@ -21,6 +22,15 @@ pub struct Answered {
     pub refusal: u8,
     pub values: [u32; reply::MAX_PIDS],
     pub notices: [bool; reply::MAX_PIDS],
+}
+
+// What a response changes beside the store of replies.
+struct Beside {
+    clients: [Client; clients::PLACES],
+    revs: Revs,
+    profiles: Profiles,
+    values: [u32; reply::MAX_PIDS],
+    notices: [bool; reply::MAX_PIDS],
 }
 
 // How many PIDs are read: a count over the limit is read as far as the arrays go.
@@ -83,66 +93,87 @@ fn refuses(response: Response) -> bool
     any_over(response)
 }
 
-// A reply is stored, it is fresh for every registered client, and the value of PID 0Ch gives the revs.
-fn deliver(mut desk: Desk, pid: u8, reply: Reply, value: u32) -> Desk
-    ensures { λ r. ⌜ r ≡ deliverOf pid reply value desk ⌝ }
+// The revs, once the value of a PID came.
+fn revs_after(revs: Revs, pid: u8, value: u32) -> Revs
+    ensures { λ r. ⌜ r ≡ revsAfter pid value revs ⌝ }
 {
-    let i = pid as usize;
-    desk.store[i] = reply;
-    let clients = desk.clients;
-    let marked = clients::mark_all(clients, pid);
-    desk.clients = marked;
     if pid == RPM {
-        let revs = Revs {
+        return Revs {
             known: true,
             value: value / 4,
         };
-        desk.revs = revs;
-        return desk;
     }
-    desk
+    revs
 }
 
-// What the PID at place i of the response does.
-fn turn(mut answer: Answered, response: Response, i: usize) -> Answered
+// What the PID at place i of the response does, beside its reply being stored.
+fn turn(mut beside: Beside, response: Response, i: usize) -> Beside
     requires { ⌜ i < maxPids ⌝ }
-    ensures { λ r. ⌜ r ≡ turnOf response i answer ⌝ }
+    ensures { λ r. ⌜ Turned response i beside r ⌝ }
 {
     let pid = response.pids[i];
     let brought = response.replies[i];
     let value = reply::value(pid, brought);
-    let desk = answer.desk;
-    let delivered = deliver(desk, pid, brought, value);
-    answer.desk = delivered;
-    let profiles = answer.profiles;
+    let clients = beside.clients;
+    let marked = clients::mark_all(clients, pid);
+    beside.clients = marked;
+    let revs = beside.revs;
+    let turning = revs_after(revs, pid, value);
+    beside.revs = turning;
+    let profiles = beside.profiles;
     let notice = triggers::notice(profiles, pid, value);
     let switched = triggers::switch(profiles, pid, value);
-    answer.profiles = switched;
-    answer.values[i] = value;
-    answer.notices[i] = notice;
-    answer
+    beside.profiles = switched;
+    beside.values[i] = value;
+    beside.notices[i] = notice;
+    beside
 }
 
-// A response goes to every registered client.
-pub fn response(desk: Desk, profiles: Profiles, response: Response) -> Answered
-    ensures { λ r. ⌜ r ≡ responseOf desk profiles response ⌝ }
+// The desk with its store, and what stands beside it, put together.
+fn put_together(mut desk: Desk, beside: Beside, refusal: u8) -> Answered
+    ensures { λ r. ⌜ r ≡ together refusal desk beside ⌝ }
 {
-    let mut answer = Answered {
+    let clients = beside.clients;
+    let revs = beside.revs;
+    let profiles = beside.profiles;
+    let values = beside.values;
+    let notices = beside.notices;
+    desk.clients = clients;
+    desk.revs = revs;
+    Answered {
         desk: desk,
         profiles: profiles,
-        refusal: 0,
+        refusal: refusal,
+        values: values,
+        notices: notices,
+    }
+}
+
+// A response goes to every registered client. The replies are stored where they belong, so that the store is not
+// copied for each.
+pub fn response(mut desk: Desk, profiles: Profiles, response: Response) -> Answered
+    ensures { λ r. ⌜ r ≡ responseOf desk profiles response ⌝ }
+{
+    let clients = desk.clients;
+    let revs = desk.revs;
+    let mut beside = Beside {
+        clients: clients,
+        revs: revs,
+        profiles: profiles,
         values: [0u32; reply::MAX_PIDS],
         notices: [false; reply::MAX_PIDS],
     };
     if refuses(response) {
-        answer.refusal = 3;
-        return answer;
+        return put_together(desk, beside, 3);
     }
     let n = listed(response.count);
     let mut i: usize = 0;
     while i < n {
-        answer = turn(answer, response, i);
+        let row = pid_list::row(response.pids[i]);
+        let brought = response.replies[i];
+        desk.store[row] = brought;
+        beside = turn(beside, response, i);
         i += 1;
     }
-    answer
+    put_together(desk, beside, 0)
 }

@@ -1,3 +1,4 @@
 pub mod Wishes
 pub mod Sweep
+pub mod Rests
 pub mod Laws

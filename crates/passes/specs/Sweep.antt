@@ -1,14 +1,14 @@
 -- A pass over the table: each entry is changed by itself, PIDs rising, and each change of speed is told.
 use mathlib.Core.List.{List, [], _∷_, _++_, append-nil, append-assoc}
-use mathlib.Core.Path.{_≡_, refl, ap}
+use mathlib.Core.Path.{_≡_, refl, sym, _∙_, ap}
 use Prim.Native.Nat.{ℕ, zero, suc, _+_, _<_, _≤_}
 use native.Mathlib.Omega.{arith}
 use native.Mathlib.Numerals.{add-one}
 use lib.ListN.{length, getD, set, take, drop, drop-of-length-le}
-use lib.Seq.{drop-cons, take-suc-set, drop-set-lt, take-all}
+use lib.Seq.{drop-cons, take-suc-set, drop-set-lt, set-getD, take-all}
 use Rattle.config.specs.InForce.{inForce}
 use Rattle.control.specs.Outbox.{sendAll, send-append, send-none}
-use Rattle.control.specs.Told.{toldOf}
+use Rattle.control.specs.Told.{toldOf, told-same}
 use Rattle.control.specs.declared.DongleMessage.{DongleMessage}
 use Rattle.control.specs.declared.outbox.Outbox.{Outbox}
 use Rattle.pid_table.specs.Entry.{speed, registeredOf, demotedOf, removedOf, clearedOf}
@@ -82,6 +82,14 @@ module _ (f : ℕ → PidInfo → PidInfo) where
       let x = getD t i d in
       rw (add-one i, g, e, take-suc-set t i (f i x) h, drop-set-lt (suc i) t i (f i x) (omega arith), drop-cons t i d h)
       (rw (send-append (l .outbox) (toldOf i (speed x) (speed (f i x))) (tidings f (suc i) (drop (suc i) t)), append-assoc (take i t) (f i x ∷ []) (swept f (suc i) (drop (suc i) t))))
+
+  -- One PID further, where its entry stays as it was.
+  pub sweep-rest : (i : ℕ) (l : Ledger) (d : PidInfo) → i < length (l .table) → f i (getD (l .table) i d) ≡ getD (l .table) i d
+      → sweepFrom f (i + 1) l ≡ sweepFrom f i l
+  sweep-rest i l d h e =
+      let x = getD (l .table) i d in
+      ap (λ (xs : List PidInfo). sweepFrom f (i + 1) (record { table = xs; outbox = l .outbox })) (sym (set-getD (l .table) i d))
+      ∙ sweep-turn i l d x (l .outbox) h (sym e) (rw (told-same i (speed x)) (sym (send-none (l .outbox))))
 
   pub swept-length : (p : ℕ) (xs : List PidInfo) → length (swept f p xs) ≡ length xs
   unfolding swept

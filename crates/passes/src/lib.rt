@@ -10,6 +10,7 @@ use pid_table::Wish;
 ghost use mathlib.Core.Path.{_≡_};
 ghost use Rattle.config.specs.InForce.{inForce};
 ghost use Rattle.passes.specs.Wishes.{countsOf, priorityOf, wishedBy, joined, wishOf};
+ghost use Rattle.passes.specs.Rests.{isUnwanted, restsOf};
 ghost use Rattle.passes.specs.Sweep.{entryAfter, sweepOf, sweepsOf, upkeep};
 
 // The table, and what is to be sent because of its changes.
@@ -110,6 +111,34 @@ fn entry_after(pass: Pass, terms: Terms, pid: u8, info: PidInfo) -> PidInfo
     }
 }
 
+fn unwanted(wish: Wish) -> bool
+    ensures { λ r. ⌜ r ≡ isUnwanted wish ⌝ }
+{
+    match wish {
+        Wish::Unwanted => true,
+        Wish::Wanted(_) => false,
+    }
+}
+
+// Whether a pass is sure to leave a PID's entry as it is. Nearly all entries are no PID's, and storing one costs more than
+// this test.
+fn rests(pass: Pass, terms: Terms, pid: u8, info: PidInfo) -> bool
+    ensures { λ r. ⌜ r ≡ restsOf pass terms pid info ⌝ }
+{
+    match pass {
+        Pass::Register => {
+            if info.pinned {
+                return false;
+            }
+            let profiles = terms.profiles;
+            unwanted(wish(profiles, pid))
+        }
+        Pass::Demote => !info.tracked,
+        Pass::Remove => !info.tracked,
+        Pass::Clear => info.count == 0,
+    }
+}
+
 // One pass over the table.
 pub fn sweep(mut ledger: Ledger, pass: Pass, terms: Terms) -> Ledger
     ensures { λ r. ⌜ r ≡ sweepOf (entryAfter pass terms) ledger ⌝ }
@@ -118,13 +147,15 @@ pub fn sweep(mut ledger: Ledger, pass: Pass, terms: Terms) -> Ledger
     while i < 256 {
         let pid = i as u8;
         let before = ledger.table[i];
-        let after = entry_after(pass, terms, pid, before);
-        ledger.table[i] = after;
-        // most entries keep their speed, and then the outbox is not touched
-        if !pid_table::same_speed(before, after) {
-            let outbox = ledger.outbox;
-            let more = pid_table::told(outbox, pid, before, after);
-            ledger.outbox = more;
+        if !rests(pass, terms, pid, before) {
+            let after = entry_after(pass, terms, pid, before);
+            ledger.table[i] = after;
+            // most entries keep their speed, and then the outbox is not touched
+            if !pid_table::same_speed(before, after) {
+                let outbox = ledger.outbox;
+                let more = pid_table::told(outbox, pid, before, after);
+                ledger.outbox = more;
+            }
         }
         i += 1;
     }

@@ -32,24 +32,25 @@ pub struct PidInfo {
     pub priority: PidPriority,
     // wanted by a profile: neither demoted nor removed
     pub pinned: bool,
+    // request_count, since the last maintenance; before the times, so that no bytes between the fields are lost
+    pub count: u32,
     // last_waiter_time
     pub waiter: LastTime,
     // last_consumed_time
     pub consumed: LastTime,
-    // request_count, since the last maintenance
-    pub count: u32,
 }
 
 // The entry of a PID that is not in the table.
 pub fn absent() -> PidInfo
     ensures { λ r. ⌜ r ≡ nobody ⌝ }
 {
+    let never = LastTime::Never;
     PidInfo {
         tracked: false,
         priority: PidPriority::Fast,
         pinned: false,
-        waiter: LastTime::Never,
-        consumed: LastTime::Never,
+        waiter: never,
+        consumed: never,
         count: 0,
     }
 }

@@ -1,6 +1,6 @@
 // Runs the box from text: a call a line in, an answer a line out, as history-format.md has them. `history` takes a
-// line apart, `lent_calls` starts the box and applies a call to it, `history_answer` and `history_show` put the answer
-// together.
+// line apart, `dispatch` applies a call to the box, `lent_calls` the start and the call that profiles are lent to,
+// `history_answer` and `history_show` put the answer together.
 use config::Profile;
 use config::Profiles;
 use config::Settings;
@@ -34,9 +34,9 @@ const ANSWER: usize = 16384;
 // of 16.
 const LISTED: usize = 17;
 
-// The box, and what stands beside it.
+// The last answer, which has the box, and what stands beside it.
 struct Playing {
-    state: State,
+    last: Answered,
     notes: Notes,
 }
 
@@ -57,7 +57,7 @@ struct Taken {
 enum Task {
     Nothing,
     Show,
-    Start { time: u64, settings: Settings },
+    Lend(Lent),
     Call(Asked),
 }
 
@@ -67,6 +67,12 @@ struct Asked {
     call: Call,
     cmd: usize,
     area: usize,
+}
+
+// The start, and the one call that profiles are lent to.
+enum Lent {
+    Start { time: u64, settings: Settings },
+    ProfilePidsChanged { time: u64 },
 }
 
 // The box after a part of the input, and whether there may be more of it.
@@ -85,14 +91,13 @@ fn least(a: usize, b: usize) -> usize
 fn first() -> Playing {
     let brought = history::nothing();
     let profiles = brought.profiles;
-    let started = lend_start(u64::MAX, config::default_settings(), profiles);
-    let state = started.state;
+    let last = lend_start(u64::MAX, config::default_settings(), profiles);
     let notes = Notes {
         brought,
         waiting: 0,
         reading: lines::start(),
     };
-    Playing { state, notes }
+    Playing { last, notes }
 }
 
 // How many PIDs the query has whose result is due.
@@ -159,21 +164,23 @@ fn lend_call(
     lent_calls::call(state, time, call, &list[..n], brought, cmd, area)
 }
 
-// Applies a call to the box. It is lent the bytes of its command, and as much of the area as the line says.
-fn apply(state: State, asked: Asked, brought: Brought, bytes: &[u8], area: &mut [u8]) -> Answered {
-    let n = least(asked.cmd, bytes.len());
-    let m = least(asked.area, area.len());
-    let call = asked.call;
+// What takes the profiles of the line.
+fn lend(state: State, lent: Lent, brought: Brought, area: &mut [u8]) -> Answered {
     let profiles = brought.profiles;
-    lend_call(
-        state,
-        asked.time,
-        call,
-        profiles,
-        brought,
-        &bytes[..n],
-        &mut area[..m],
-    )
+    match lent {
+        Lent::Start { time, settings } => lend_start(time, settings, profiles),
+        Lent::ProfilePidsChanged { time } => {
+            lend_call(
+                state,
+                time,
+                Call::ProfilePidsChanged,
+                profiles,
+                brought,
+                b"",
+                area,
+            )
+        }
+    }
 }
 
 // Puts an answer behind those that wait.
@@ -215,6 +222,19 @@ fn bad(mut notes: Notes, out: &mut [u8]) -> Taken {
     }
 }
 
+// What a line asks for that is a call.
+fn calling(time: u64, call: Call, cmd: usize, area: usize) -> Task {
+    match call {
+        Call::ProfilePidsChanged => Task::Lend(Lent::ProfilePidsChanged { time }),
+        _ => Task::Call(Asked {
+            time,
+            call,
+            cmd,
+            area,
+        }),
+    }
+}
+
 // What a line asks for that was taken apart.
 fn task_of(notes: Notes, line: Line, out: &mut [u8]) -> Taken {
     match line {
@@ -225,7 +245,7 @@ fn task_of(notes: Notes, line: Line, out: &mut [u8]) -> Taken {
         },
         Line::Start { time, settings } => Taken {
             notes,
-            task: Task::Start { time, settings },
+            task: Task::Lend(Lent::Start { time, settings }),
         },
         Line::Call {
             time,
@@ -233,16 +253,8 @@ fn task_of(notes: Notes, line: Line, out: &mut [u8]) -> Taken {
             cmd,
             area,
         } => {
-            let asked = Asked {
-                time,
-                call,
-                cmd,
-                area,
-            };
-            Taken {
-                notes,
-                task: Task::Call(asked),
-            }
+            let task = calling(time, call, cmd, area);
+            Taken { notes, task }
         }
     }
 }
@@ -296,8 +308,8 @@ fn take_line(
     read_line(notes, &line[..len], read.long, round, bytes, out)
 }
 
-// Answers each line that ends in a part of the input. From here the box goes into a call and comes back, and nowhere
-// else: each function that it passes through costs a copy of it.
+// Answers each line that ends in a part of the input. The box stands in the last answer and goes from it straight into
+// the next call: each place that it is put down in between costs a copy of it.
 fn answer_part(
     playing: Playing,
     input: &[u8],
@@ -306,36 +318,36 @@ fn answer_part(
     area: &mut [u8],
     out: &mut [u8],
 ) -> Playing {
-    let mut state = playing.state;
+    let mut last = playing.last;
     let mut notes = playing.notes;
     let mut at = 0;
     while at < input.len() {
         let fed = lines::feed(notes.reading, &input[at..], line);
         at += fed.used;
-        let taken = take_line(notes, fed, state.poller.round, line, bytes, out);
+        let taken = take_line(notes, fed, last.state.poller.round, line, bytes, out);
         notes = taken.notes;
         let task = taken.task;
         match task {
             Task::Nothing => {}
-            Task::Show => notes.waiting = history_show::show(out, notes.waiting, state),
-            Task::Start { time, settings } => {
-                let started = lend_start(time, settings, notes.brought.profiles);
-                state = started.state;
-                let answer = started.answer;
-                notes = tell(notes, Call::Tick, answer, started.details, b"", out);
+            Task::Show => notes.waiting = history_show::show(out, notes.waiting, last.state),
+            Task::Lend(lent) => {
+                last = lend(last.state, lent, notes.brought, area);
+                let answer = last.answer;
+                notes = tell(notes, Call::Tick, answer, last.details, b"", out);
             }
             Task::Call(asked) => {
-                let answered = apply(state, asked, notes.brought, bytes, area);
-                state = answered.state;
-                let answer = answered.answer;
+                let cmd = &bytes[..least(asked.cmd, bytes.len())];
+                let m = least(asked.area, area.len());
+                let room = &mut area[..m];
                 let call = asked.call;
-                let size = least(asked.area, area.len());
-                notes = tell(notes, call, answer, answered.details, &area[..size], out);
+                last = dispatch::call(last.state, asked.time, call, notes.brought, cmd, room);
+                let answer = last.answer;
+                notes = tell(notes, call, answer, last.details, &area[..m], out);
             }
         }
     }
     notes = flush(notes, out);
-    Playing { state, notes }
+    Playing { last, notes }
 }
 
 // Reads a part of the input and answers it.

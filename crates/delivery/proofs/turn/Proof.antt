@@ -1,4 +1,4 @@
-use Rattle.delivery.specs.Cases.{turn-is}
+use Rattle.delivery.specs.Beside.{turned}
 use borrow.Author.Needs.{needs}
 use Rattle.delivery.proofs.turn.Statement.{statement}
 use Rattle.delivery.proofs.turn.Tie as tie
@@ -15,8 +15,11 @@ element-copy-out-brought c = search needs
 value-requires : tie.Need-value-requires
 value-requires c κs = search needs
 
-deliver-requires : tie.Need-deliver-requires
-deliver-requires c κs = search needs
+mark-all-requires : tie.Need-mark-all-requires
+mark-all-requires c κs = search needs
+
+revs-after-requires : tie.Need-revs-after-requires
+revs-after-requires c κs = search needs
 
 notice-requires : tie.Need-notice-requires
 notice-requires c κs = search needs
@@ -24,21 +27,24 @@ notice-requires c κs = search needs
 switch-requires : tie.Need-switch-requires
 switch-requires c κs = search needs
 
-mul-answer : tie.Need-mul-answer
-mul-answer c = search needs
+mul-beside : tie.Need-mul-beside
+mul-beside c = search needs
 
-element-write-answer : tie.Need-element-write-answer
-element-write-answer c = search needs
+element-write-beside : tie.Need-element-write-beside
+element-write-beside c = search needs
 
-element-write-answer-2 : tie.Need-element-write-answer-2
-element-write-answer-2 c = search needs
+element-write-beside-2 : tie.Need-element-write-beside-2
+element-write-beside-2 c = search needs
 
 returns : tie.Need-returns
 returns c =
-    let b = c .before .before .before in
-    let v = b .before .before in
-    let s = v .before .before .before in
-    turn-is (s .args .t2) (s .args .i) (s .args .t1) (v .value .result) (b .deliver .result) (c .switch .result) (c .before .notice .result) (v .value .ensures) (b .deliver .ensures) (c .switch .ensures) (c .before .notice .ensures)
+    let n = c .before in
+    let r = n .before .before in
+    let m = r .before .before in
+    let v = m .before .before in
+    let s = v .before .before .before .args in
+    turned (s .t2) (s .i) (s .t1) (v .value .result) (m .mark-all .result) (r .revs-after .result) (c .switch .result) (n .notice .result)
+    (v .value .ensures) (m .mark-all .ensures) (r .revs-after .ensures) (c .switch .ensures) (n .notice .ensures)
 
 pub turn-spec : {M : Type 1} → statement M
 turn-spec =
@@ -48,10 +54,11 @@ turn-spec =
     mul-brought
     element-copy-out-brought
     value-requires
-    deliver-requires
+    mark-all-requires
+    revs-after-requires
     notice-requires
     switch-requires
-    mul-answer
-    element-write-answer
-    element-write-answer-2
+    mul-beside
+    element-write-beside
+    element-write-beside-2
     returns)

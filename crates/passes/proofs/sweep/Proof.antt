@@ -8,7 +8,8 @@ use lib.ListN.{length, length-map, length-set, getD}
 use Rattle.control.specs.Told.{told-none}
 use Rattle.control.specs.Outbox.{send-none}
 use Rattle.pid_table.specs.Entry.{nobody, speed}
-use Rattle.passes.specs.Sweep.{entryAfter, sweepOf, sweepFrom, sweep-start, sweep-turn, sweep-end}
+use Rattle.passes.specs.Rests.{rests-same}
+use Rattle.passes.specs.Sweep.{entryAfter, sweepOf, sweepFrom, sweep-start, sweep-turn, sweep-rest, sweep-end}
 use Rattle.passes.proofs.sweep.Statement.{statement}
 use Rattle.passes.proofs.sweep.Tie as tie
 
@@ -30,6 +31,9 @@ mul-before c = omega arith
 
 element-copy-out-before : tie.Need-element-copy-out-before Inv-loop μ-loop
 element-copy-out-before c = omega arith
+
+rests-requires : tie.Need-rests-requires Inv-loop μ-loop
+rests-requires c κs = search needs
 
 entry-after-requires : tie.Need-entry-after-requires Inv-loop μ-loop
 entry-after-requires c κs = search needs
@@ -54,26 +58,31 @@ loop-less c = omega arith
 
 loop-again : tie.Need-loop-again Inv-loop μ-loop
 loop-again c =
-    let a = c .before .before .before .before .before in
+    let a = c .before .before .before .before in
     let s = a .before .args in
     let f = entryAfter (s .pass) (s .terms) in
     let i = a .loop .i in
     let l = a .loop .ledger in
-    let y = c .before .before .entry-after in
     let x = getD (l .table) i nobody in
     let long = a .loop .inv .1 in
     ⊎-elim
-    (λ w. (
+    (λ w.
+    let y = w .1 in (
       omega arith,
-      rw (w .3) (simp length-set long),
-      rw (w .3) (sweep-turn f i l nobody (y .result) (w .2 .result) (omega arith) (y .ensures) (w .2 .ensures) ∙ a .loop .inv .2),
+      rw (w .6) (simp length-set long),
+      rw (w .6) (sweep-turn f i l nobody (y .result) (w .5 .result) (omega arith) (y .ensures) (w .5 .ensures) ∙ a .loop .inv .2),
+    ))
+    (⊎-elim
+    (λ w.
+    let y = w .1 in
+    let e = told-none i (speed x) (speed (y .result)) (sym (w .2 .ensures) ∙ not-false (w .2 .result) (w .3 .left)) in (
+      omega arith,
+      rw (w .4) (simp length-set long),
+      rw (w .4) (sweep-turn f i l nobody (y .result) (l .outbox) (omega arith) (y .ensures) (rw e (sym (send-none (l .outbox)))) ∙ a .loop .inv .2),
     ))
     (λ w.
-    let e = told-none i (speed x) (speed (y .result)) (sym (c .before .same-speed .ensures) ∙ not-false (c .before .same-speed .result) (w .0 .left)) in (
-      omega arith,
-      rw (w .1) (simp length-set long),
-      rw (w .1) (sweep-turn f i l nobody (y .result) (l .outbox) (omega arith) (y .ensures) (rw e (sym (send-none (l .outbox)))) ∙ a .loop .inv .2),
-    ))
+    let e = rests-same (s .pass) (s .terms) i x (sym (c .before .rests .ensures) ∙ not-false (c .before .rests .result) (w .0 .left)) in
+    (omega arith, rw (w .1) long, rw (w .1) (sweep-rest f i l nobody (omega arith) e ∙ a .loop .inv .2))))
     (c .if1 .came)
 
 returns : tie.Need-returns Inv-loop μ-loop
@@ -91,6 +100,7 @@ sweep-spec =
     cast-pid
     mul-before
     element-copy-out-before
+    rests-requires
     entry-after-requires
     mul-after
     element-set-from-after

@@ -1,8 +1,9 @@
 -- `replay::answer_part` is safe and ends: each turn uses a byte at least.
 use Rattle.lines.specs.Laws.{used-some, used-within}
-use lib.Seq.{length-take-le}
+use lib.Seq.{length-take-le, length-front}
 use lib.ListN.{take, drop, length, length-take, length-drop}
 use Prim.Native.Nat.{_<_, _+_, _≤_, _-_}
+use mathlib.Core.List.{_++_}
 use mathlib.Core.Path.{_≡_, sym, _∙_}
 use native.Mathlib.Omega.{arith}
 use borrow.Author.Needs.{needs}
@@ -10,11 +11,11 @@ use Rattle.replay.proofs.answer_part.Statement.{statement}
 use Rattle.replay.proofs.answer_part.Tie as tie
 
 abbrev Inv-loop : tie.InvT-loop
-Inv-loop input line₀ bytes₀ area₀ out₀ state₀ notes₀ at₀ t23 line bytes area out state notes at =
+Inv-loop input line₀ bytes₀ area₀ out₀ last₀ notes₀ at₀ t21 line bytes area out last notes at =
     (at ≤ length input) × (length line ≡ length line₀) × (length bytes ≡ length bytes₀) × (length area ≡ length area₀) × (length out ≡ length out₀)
 
 abbrev μ-loop : tie.MeasureT-loop
-μ-loop input line₀ bytes₀ area₀ out₀ state₀ notes₀ at₀ t23 line bytes area out state notes at = length input - at
+μ-loop input line₀ bytes₀ area₀ out₀ last₀ notes₀ at₀ t21 line bytes area out last notes at = length input - at
 
 -- some of what is left of the input is used, and no more
 used : (c : tie.After-feed Inv-loop μ-loop)
@@ -39,6 +40,11 @@ kept c =
     let i = f .before .before .before .before .loop .inv in
     let k = c .take-line .kept in
     (f .feed .kept .1 .1 .0 ∙ i .1, k .1 .1 .1 .1 .0 ∙ i .2, i .3, k .1 .1 .1 .1 .1 .0 ∙ i .4)
+
+-- the area has its length again once the part that was lent to a call is back
+area-kept : (c : tie.After-call Inv-loop μ-loop)
+    → length (c .call .last .1 .1 .1 .1 .1 .0 ++ drop (c .before .before .least2 .result) (c .before .before .before .before .before .before .before .before .before .before .before .before .before .before .before .before .before .before .before .before .before .before .before .before .loop .area)) ≡ length (c .before .before .before .before .before .before .before .before .before .before .before .before .before .before .before .before .before .before .before .before .before .before .before .before .loop .area)
+area-kept c = length-front (c .before .before .before .before .before .before .before .before .before .before .before .before .before .before .before .before .before .before .before .before .before .before .before .before .loop .area) (c .call .last .1 .1 .1 .1 .1 .0) (c .before .before .least2 .result) (c .call .kept .1 .1 .1 .1 .1 .0)
 
 loop-holds : tie.Need-loop-holds Inv-loop μ-loop
 loop-holds c = omega arith
@@ -95,8 +101,8 @@ loop-again-2 c =
 enum-known-task : tie.Need-enum-known-task Inv-loop μ-loop
 enum-known-task c = search needs
 
-lend-start-requires : tie.Need-lend-start-requires Inv-loop μ-loop
-lend-start-requires c κs = tt
+lend-requires : tie.Need-lend-requires Inv-loop μ-loop
+lend-requires c κs = tt
 
 slice-aggregate-tell : tie.Need-slice-aggregate-tell Inv-loop μ-loop
 slice-aggregate-tell c = search needs
@@ -105,32 +111,53 @@ tell-requires : tie.Need-tell-requires Inv-loop μ-loop
 tell-requires c κs = tt
 
 loop-less-3 : tie.Need-loop-less-3 Inv-loop μ-loop
-loop-less-3 c = let u = used (c .before .before .before .before .before .before .before .before .before .before .before .before .before .before .before .before .before .before .before .before .before .before) in omega arith
+loop-less-3 c = let u = used (c .before .before .before .before .before .before .before .before .before .before .before .before .before .before .before .before .before .before .before .before .before .before .before .before) in omega arith
 
 loop-again-3 : tie.Need-loop-again-3 Inv-loop μ-loop
 loop-again-3 c =
-    let u = used (c .before .before .before .before .before .before .before .before .before .before .before .before .before .before .before .before .before .before .before .before .before .before) in
-    let k = kept (c .before .before .before .before .before .before .before .before .before .before .before .before .before .before .before) in
-    (omega arith, k .0, k .1, k .2, c .before .before .tell .kept .1 .1 .1 .1 .1 .0 ∙ k .3)
+    let u = used (c .before .before .before .before .before .before .before .before .before .before .before .before .before .before .before .before .before .before .before .before .before .before .before .before) in
+    let k = kept (c .before .before .before .before .before .before .before .before .before .before .before .before .before .before .before .before .before) in
+    (omega arith, k .0, k .1, c .before .before .before .before .before .before .before .lend .kept .1 .1 .1 .0 ∙ k .2, c .before .before .tell .kept .1 .1 .1 .1 .1 .0 ∙ k .3)
 
 enum-known-task-2 : tie.Need-enum-known-task-2 Inv-loop μ-loop
 enum-known-task-2 c = search needs
 
-apply-requires : tie.Need-apply-requires Inv-loop μ-loop
-apply-requires c κs = tt
-
 least-requires : tie.Need-least-requires Inv-loop μ-loop
 least-requires c κs = tt
 
+slice-reshare-prefix-cmd : tie.Need-slice-reshare-prefix-cmd Inv-loop μ-loop
+slice-reshare-prefix-cmd c = let e = c .least .ensures in omega arith
+
+slice-aggregate-cmd : tie.Need-slice-aggregate-cmd Inv-loop μ-loop
+slice-aggregate-cmd c =
+    let e = c .before .least .ensures in
+    sym (length-take-le _ _ (omega arith))
+
+least-requires-2 : tie.Need-least-requires-2 Inv-loop μ-loop
+least-requires-2 c κs = tt
+
+slice-relend-prefix-room : tie.Need-slice-relend-prefix-room Inv-loop μ-loop
+slice-relend-prefix-room c = let e = c .least2 .ensures in omega arith
+
+slice-aggregate-room : tie.Need-slice-aggregate-room Inv-loop μ-loop
+slice-aggregate-room c =
+    let e = c .before .least2 .ensures in
+    sym (length-take-le _ _ (omega arith))
+
+call-requires : tie.Need-call-requires Inv-loop μ-loop
+call-requires c κs = tt
+
 slice-reshare-prefix-tell : tie.Need-slice-reshare-prefix-tell Inv-loop μ-loop
 slice-reshare-prefix-tell c =
-    let e = c .least .ensures in
-    omega arith
+    let e = c .before .before .before .before .least2 .ensures in
+    let l = area-kept (c .before .before) in
+    omega (arith, l)
 
 slice-aggregate-tell-2 : tie.Need-slice-aggregate-tell-2 Inv-loop μ-loop
 slice-aggregate-tell-2 c =
-    let e = c .before .least .ensures in
-    sym (length-take-le _ _ (omega arith))
+    let e = c .before .before .before .before .before .least2 .ensures in
+    let l = area-kept (c .before .before .before) in
+    sym (length-take-le _ _ (omega (arith, l)))
 
 tell-requires-2 : tie.Need-tell-requires-2 Inv-loop μ-loop
 tell-requires-2 c κs = tt
@@ -142,7 +169,8 @@ loop-again-4 : tie.Need-loop-again-4 Inv-loop μ-loop
 loop-again-4 c =
     let u = used (c .before .before .before .before .before .before .before .before .before .before .before .before .before .before .before .before .before .before .before .before .before .before .before .before .before .before .before) in
     let k = kept (c .before .before .before .before .before .before .before .before .before .before .before .before .before .before .before .before .before .before .before .before) in
-    (omega arith, k .0, k .1, c .before .before .before .before .before .before .before .before .before .apply .kept .1 .1 .1 .1 .0 ∙ k .2, c .before .before .tell2 .kept .1 .1 .1 .1 .1 .0 ∙ k .3)
+    let l = area-kept (c .before .before .before .before .before .before .before) in
+    (omega arith, k .0, k .1, l ∙ k .2, c .before .before .tell2 .kept .1 .1 .1 .1 .1 .0 ∙ k .3)
 
 flush-requires : tie.Need-flush-requires Inv-loop μ-loop
 flush-requires c κs = tt
@@ -183,14 +211,19 @@ answer-part-spec =
     loop-less-2
     loop-again-2
     enum-known-task
-    lend-start-requires
+    lend-requires
     slice-aggregate-tell
     tell-requires
     loop-less-3
     loop-again-3
     enum-known-task-2
-    apply-requires
     least-requires
+    slice-reshare-prefix-cmd
+    slice-aggregate-cmd
+    least-requires-2
+    slice-relend-prefix-room
+    slice-aggregate-room
+    call-requires
     slice-reshare-prefix-tell
     slice-aggregate-tell-2
     tell-requires-2
