@@ -1,21 +1,21 @@
 -- Lists and table agree once the messages that wait are taken: what that says of line, manager and lists, and that
 -- each way of changing them keeps it.
-use mathlib.Core.Bool.{Bool, true, false}
-use mathlib.Core.List.{List, [], _∷_, _++_}
-use mathlib.Core.Path.{_≡_, refl, ap, sym, _∙_}
-use Prim.Native.Nat.{ℕ, _+_, _-_, _<_, _≤_}
+use mathlib.Core.Bool.{false}
+use mathlib.Core.List.{List, [], _∷_}
+use mathlib.Core.Path.{_≡_}
+use Prim.Native.Nat.{ℕ, _+_, _-_, _≤_}
 use native.Mathlib.Omega.{arith}
 use lib.Dec.{ltb}
 use lib.ListN.{length}
-use borrow.Author.Tests.{ltb-true, ltb-false, lt-ltb, le-ltb}
-use Rattle.base.specs.Choice.{pick, cases}
-use Rattle.control.specs.Names.{Named, named-none, named-append, named-first, named-rest}
+use borrow.Author.Tests.{ltb-true, ltb-false}
+use Rattle.base.specs.Choice.{cases}
+use Rattle.control.specs.Names.{Named, named-append, named-first, named-rest}
 use Rattle.control.specs.Outbox.{messages}
-use Rattle.control.specs.Speed.{Speed, untracked, after, afterAll, Listed, Agree, after-append}
+use Rattle.control.specs.Speed.{Speed, after, afterAll, Agree, after-append}
 use Rattle.control.specs.declared.DongleMessage.{DongleMessage}
-use Rattle.control_line.specs.Laws.{push-all, take-first, take-sound, empty-sound, empty-waiting}
+use Rattle.control_line.specs.Laws.{push-all, take-first, take-sound}
 use Rattle.control_line.specs.Laws as line
-use Rattle.control_line.specs.Ring.{freeOf, pushAllOf, takeOf, waiting, emptyLine}
+use Rattle.control_line.specs.Ring.{freeOf, pushAllOf, takeOf, waiting}
 use Rattle.control_line.specs.declared.ControlLine.{ControlLine}
 use Rattle.manager.specs.Laws.{Tells}
 use Rattle.manager.specs.declared.Answer.{Answer as Managed}

@@ -4,8 +4,8 @@
 -- and `result` calls that end it), take the waiting control messages in order, and the poller's fast list is exactly
 -- the manager's Fast PIDs, its slow list the Slow ones, no PID twice within or across them. What the manager tracks is
 -- read from the start and the accepted calls' arguments alone.
-use mathlib.Core.Bool.{Bool, true, false}
-use mathlib.Core.List.{List, [], _∷_, _++_}
+use mathlib.Core.Bool.{false}
+use mathlib.Core.List.{List, [], _∷_}
 use mathlib.Core.Path.{_≡_}
 use Prim.Native.Nat.{ℕ, zero, suc, _≤_}
 use lib.ListN.{length, replicate}

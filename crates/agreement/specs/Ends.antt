@@ -1,30 +1,29 @@
 -- An open round ends: whatever the results, a bounded number of `next` and `result` calls closes it.
-use mathlib.Core.Bool.{Bool, true, false, not, _||_}
+use mathlib.Core.Bool.{Bool, true, false}
 use mathlib.Core.List.{List, [], _∷_}
-use mathlib.Core.Path.{_≡_, refl, ap, sym, _∙_}
-use Prim.Native.Nat.{ℕ, suc, _+_, _*_, _<_, _≤_}
+use mathlib.Core.Path.{_≡_, refl}
+use Prim.Native.Nat.{ℕ, _+_, _*_, _<_, _≤_}
 use native.Mathlib.Omega.{arith}
 use lib.Dec.{eqb}
 use lib.ListN.{length}
 use borrow.Author.Tests.{eqb-true}
-use Rattle.base.specs.Choice.{pick, one, cases, false-true}
+use Rattle.base.specs.Choice.{pick, one, cases}
 use Rattle.base.specs.Refusal.{firstOf}
 use Rattle.config.specs.declared.Profiles.{Profiles}
 use Rattle.config.specs.declared.Settings.{Settings}
 use Rattle.control_line.specs.Ring.{takeOf}
 use Rattle.control_line.specs.declared.Taken.{Taken}
 use Rattle.control_line.specs.declared.Taken.the-variants.{Message, Nothing}
-use Rattle.poll_laws.specs.Rounds.{queriesLeft, Stride, ended, issued, next-stride, Settled, result-settled, begin-left}
-use Rattle.poller.specs.Calls.{connectOf as connectPoller, failOf as failPoller, reconnectOf as reconnectPoller, beginOf as beginPoller}
+use Rattle.poll_laws.specs.Rounds.{queriesLeft, Stride, ended, issued, next-stride, result-settled, begin-left}
+use Rattle.poller.specs.Calls.{connectOf as connectPoller, failOf as failPoller, reconnectOf as reconnectPoller}
 use Rattle.rounds.specs.Next.{nextOf as nextPoller}
-use Rattle.rounds.specs.Result.{resultOf as resultPoller}
 use Rattle.poller.specs.State.{openOf, dueOf, startOf as startPoller}
 use Rattle.rounds.specs.declared.Outcome.{Outcome}
 use Rattle.poller.specs.declared.Poller.{Poller}
 use Rattle.rounds.specs.declared.Stepped.{Stepped}
-use Rattle.obd2.specs.Calls.{settled, takenBy, startOf, registerOf, leaveCallOf, askOf, collectOf, giveUpOf, respondOf, profilesOf, waitingOf, consumedOf, tickCallOf, settingsOf, takeControlOf, connectOf, connectFailedOf, reconnectCheckOf, beginOf, nextOf, resultOf}
+use Rattle.obd2.specs.Calls.{takenBy, startOf, registerOf, leaveCallOf, askOf, collectOf, giveUpOf, respondOf, profilesOf, waitingOf, consumedOf, tickCallOf, settingsOf, takeControlOf, connectOf, connectFailedOf, reconnectCheckOf, beginOf, nextOf, resultOf}
 use Rattle.obd2.specs.History.{Call, register, leave, ask, collect, giveUp, response, profilePidsChanged, waiting as waits, consumed, tick, settings, takeControl, connect, connectFailed, reconnectCheck, begin, next, result, Calls, none, more, step, run}
-use Rattle.obd2.specs.Refusals.{badTime, roundOpen, resultDue, startRefusal, registerRefusal, askRefusal, collectRefusal, giveUpRefusal, responseRefusal, profilesRefusal, consumedRefusal, eventRefusal, settingsRefusal, closedRefusal, connectRefusal, nextRefusal, resultRefusal}
+use Rattle.obd2.specs.Refusals.{roundOpen, resultDue, startRefusal, registerRefusal, askRefusal, collectRefusal, giveUpRefusal, responseRefusal, profilesRefusal, consumedRefusal, eventRefusal, settingsRefusal, closedRefusal, connectRefusal, nextRefusal, resultRefusal}
 use Rattle.obd2.specs.State.{managed, started, termsOf, withLine}
 use Rattle.link.specs.declared.Session.{Session}
 use Rattle.delivery.specs.Rules.{responseOf}
@@ -33,7 +32,6 @@ use Rattle.passes.specs.declared.Terms.{Terms}
 use Rattle.pid_table.specs.declared.WaitDuration.{WaitDuration}
 use Rattle.reply.specs.declared.Response.{Response}
 use Rattle.obd2.specs.declared.State.{State}
-use Rattle.obd2.specs.declared.Answered.{Answered}
 use Rattle.agreement.specs.Claim.{OfRound, due, ending}
 use Rattle.obd2.specs.Accepted.{closed-open, next-open, result-open}
 use Rattle.agreement.specs.Steps.{Good, step-good}

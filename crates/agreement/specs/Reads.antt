@@ -1,34 +1,32 @@
 -- What is read from the events alone is what the box has: one law a call.
 use mathlib.Core.Bool.{Bool, true, false}
-use mathlib.Core.List.{List, [], _∷_, _++_}
-use mathlib.Core.Path.{_≡_, refl, ap, sym, _∙_}
+use mathlib.Core.List.{List, [], _∷_}
+use mathlib.Core.Path.{_≡_, refl, ap, _∙_}
 use Prim.Native.Nat.{ℕ, zero, suc}
-use native.Mathlib.Omega.{arith}
 use lib.Dec.{eqb}
 use lib.ListN.{length}
 use borrow.Author.Tests.{eqb-true}
 use Rattle.base.specs.Choice.{pick, cases}
 use Rattle.base.specs.Refusal.{firstOf}
-use Rattle.config.specs.Defaults.{defaultSettings}
 use Rattle.config.specs.declared.Profiles.{Profiles}
 use Rattle.config.specs.declared.Settings.{Settings}
 use Rattle.control_line.specs.Ring.{takeOf}
 use Rattle.control_line.specs.declared.Taken.{Taken}
 use Rattle.control_line.specs.declared.Taken.the-variants.{Message, Nothing}
-use Rattle.delivery.specs.Rules.{turnOf, turnsOf, unfit, responseRefusal as deliveryRefusal, responseOf, unanswered}
+use Rattle.delivery.specs.Rules.{turnOf, turnsOf, responseRefusal as deliveryRefusal, responseOf, unanswered}
 use Rattle.delivery.specs.declared.Answered.{Answered as Delivered}
 use Rattle.manager.specs.Calls.{tickOf, changedOf, waitingCallOf, consumedCallOf}
 use Rattle.manager.specs.declared.Answer.{Answer as Managed}
 use Rattle.passes.specs.declared.Terms.{Terms}
 use Rattle.pid_table.specs.declared.WaitDuration.{WaitDuration}
 use Rattle.reply.specs.declared.Response.{Response}
-use Rattle.obd2.specs.Calls.{settled, takenBy, startOf, registerOf, leaveCallOf, askOf, collectOf, giveUpOf, respondOf, profilesOf, waitingOf, consumedOf, tickCallOf, settingsOf, takeControlOf, connectOf, connectFailedOf, reconnectCheckOf, beginOf, nextOf, resultOf}
+use Rattle.obd2.specs.Calls.{takenBy, startOf, registerOf, leaveCallOf, askOf, collectOf, giveUpOf, respondOf, profilesOf, waitingOf, consumedOf, tickCallOf, settingsOf, takeControlOf, connectOf, connectFailedOf, reconnectCheckOf, beginOf, nextOf, resultOf}
 use Rattle.obd2.specs.History.{Call, register, leave, ask, collect, giveUp, response, profilePidsChanged, waiting as waits, consumed, tick, settings, takeControl, connect, connectFailed, reconnectCheck, begin, next, result, step, run, Event, eventOf, happened, acceptedBy, accepted}
 use Rattle.obd2.specs.Refusals.{startRefusal, registerRefusal, askRefusal, collectRefusal, giveUpRefusal, responseRefusal, profilesRefusal, consumedRefusal, eventRefusal, settingsRefusal, closedRefusal, connectRefusal, nextRefusal, resultRefusal}
 use Rattle.obd2.specs.State.{managed, started, termsOf, withLine}
 use Rattle.obd2.specs.declared.State.{State}
 use Rattle.obd2.specs.Accepted.{response-fit}
-use Rattle.agreement.specs.Claim.{Reading, switched, readCall, read, readingAt, readStart}
+use Rattle.agreement.specs.Claim.{Reading, switched, readCall, read, readStart}
 
 -- The reading of a box.
 abbrev pub readOff : State → Reading

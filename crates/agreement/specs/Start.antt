@@ -1,11 +1,8 @@
 -- The box that a start returns, refused or not: lists and table agree from the first.
-use mathlib.Core.Bool.{true, false}
-use mathlib.Core.List.{List, []}
-use mathlib.Core.Path.{_≡_, refl, ap, sym, _∙_}
+use mathlib.Core.Path.{sym}
 use Prim.Native.Nat.{ℕ}
 use native.Mathlib.Omega.{arith}
-use lib.Dec.{ltb, eqb}
-use lib.ListN.{length}
+use lib.Dec.{eqb}
 use borrow.Author.Tests.{le-ltb}
 use Rattle.base.specs.Choice.{cases}
 use Rattle.config.specs.Blank.{noProfiles}

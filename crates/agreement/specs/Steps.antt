@@ -1,21 +1,17 @@
 -- Each call keeps lists and table agreed: one law a call.
-use mathlib.Core.Bool.{Bool, true, false}
+use mathlib.Core.Bool.{false}
 use mathlib.Core.List.{List, [], _∷_}
-use mathlib.Core.Path.{_≡_, refl, ap, sym, _∙_}
-use Prim.Native.Nat.{ℕ, _<_, _≤_}
-use native.Mathlib.Omega.{arith}
-use lib.Dec.{ltb, eqb}
+use mathlib.Core.Path.{_≡_, refl}
+use Prim.Native.Nat.{ℕ, _<_}
+use lib.Dec.{eqb}
 use lib.ListN.{length}
 use borrow.Author.Tests.{eqb-true}
-use Rattle.base.specs.Choice.{pick, cases}
+use Rattle.base.specs.Choice.{cases}
 use Rattle.config.specs.declared.Profiles.{Profiles}
 use Rattle.config.specs.declared.Settings.{Settings}
-use Rattle.control.specs.Outbox.{messages}
 use Rattle.control.specs.declared.DongleMessage.{DongleMessage}
 use Rattle.control_line.specs.Laws.{take-first, take-none}
 use Rattle.control_line.specs.Ring.{takeOf, waiting}
-use Rattle.control_line.specs.declared.Taken.{Taken}
-use Rattle.control_line.specs.declared.Taken.the-variants.{Message, Nothing}
 use Rattle.delivery.specs.Rules.{responseOf}
 use Rattle.link.specs.declared.Session.{Session}
 use Rattle.manager.specs.Calls.{tickOf, changedOf, waitingCallOf, consumedCallOf}
@@ -33,7 +29,6 @@ use Rattle.rounds.specs.declared.Outcome.{Outcome}
 use Rattle.poller.specs.declared.Poller.{Poller}
 use Rattle.passes.specs.declared.Terms.{Terms}
 use Rattle.pid_list.specs.Rules.{entries}
-use Rattle.pid_list.specs.declared.PidList.{PidList}
 use Rattle.reply.specs.declared.Response.{Response}
 use Rattle.obd2.specs.Calls.{settled, takenBy, registerOf, leaveCallOf, askOf, collectOf, giveUpOf, respondOf, profilesOf, waitingOf, consumedOf, tickCallOf, settingsOf, takeControlOf, connectOf, connectFailedOf, reconnectCheckOf, beginOf, nextOf, resultOf}
 use Rattle.obd2.specs.History.{Call, register, leave, ask, collect, giveUp, response, profilePidsChanged, waiting as waits, consumed, tick, settings, takeControl, connect, connectFailed, reconnectCheck, begin, next, result, Fit, Calls, none, more, step, run}
@@ -42,7 +37,7 @@ use Rattle.obd2.specs.State.{managed, termsOf, withLine}
 use Rattle.obd2.specs.declared.State.{State}
 use Rattle.obd2.specs.declared.Answered.{Answered}
 use Rattle.agreement.specs.Agreed.{Agreed, managed-agreed, taken-agreed, same-agreed}
-use Rattle.obd2.specs.Accepted.{register-room, event-room, response-room, profiles-room, consumed-room, closed-open, connect-open}
+use Rattle.obd2.specs.Accepted.{register-room, event-room, response-room, profiles-room, consumed-room}
 
 -- Lists and table of a box agree once the messages that wait are taken.
 abbrev pub Good : State → Type 0

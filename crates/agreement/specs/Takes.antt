@@ -1,24 +1,18 @@
 -- The waiting messages taken one call each: none is left, the manager is as it was, and lists and table agree.
-use mathlib.Core.Bool.{Bool, true, false}
+use mathlib.Core.Bool.{false}
 use mathlib.Core.List.{List, [], _∷_}
-use mathlib.Core.Path.{_≡_, refl, ap, sym, _∙_}
-use Prim.Native.Nat.{ℕ, suc}
-use native.Mathlib.Omega.{arith}
-use lib.Dec.{eqb}
+use mathlib.Core.Path.{_≡_, refl, sym, _∙_}
+use Prim.Native.Nat.{ℕ}
 use lib.ListN.{length, replicate}
-use Rattle.base.specs.Choice.{pick}
 use Rattle.base.specs.Refusal.{firstOf}
 use Rattle.control.specs.declared.DongleMessage.{DongleMessage}
 use Rattle.control_line.specs.Laws.{take-first}
-use Rattle.control_line.specs.Ring.{takeOf, waiting}
-use Rattle.control_line.specs.declared.Taken.the-variants.{Message}
-use Rattle.manager.specs.declared.Manager.{Manager}
-use Rattle.poller.specs.State.{openOf}
+use Rattle.control_line.specs.Ring.{waiting}
 use Rattle.obd2.specs.Calls.{takeControlOf}
-use Rattle.obd2.specs.History.{Call, takeControl, step, run}
+use Rattle.obd2.specs.History.{takeControl, step, run}
 use Rattle.obd2.specs.Refusals.{roundOpen, closedRefusal}
 use Rattle.obd2.specs.declared.State.{State}
-use Rattle.agreement.specs.Agreed.{Agreed, taken-agreed}
+use Rattle.agreement.specs.Agreed.{taken-agreed}
 use Rattle.agreement.specs.Steps.{Good, step-good}
 use Rattle.agreement.specs.Times.{Timely, own-time, step-timely}
 

@@ -1,15 +1,15 @@
 -- Claim 1, proved.
-use mathlib.Core.Bool.{Bool, true, false}
-use mathlib.Core.List.{List, [], _∷_, _++_}
+use mathlib.Core.Bool.{false}
+use mathlib.Core.List.{List, [], _∷_}
 use mathlib.Core.Path.{_≡_, refl, ap, sym, subst, _∙_}
-use Prim.Native.Nat.{ℕ, _≤_}
+use Prim.Native.Nat.{ℕ}
 use native.Mathlib.Omega.{arith}
 use lib.Dec.{eqb}
 use lib.ListN.{length}
-use Rattle.base.specs.Choice.{pick, cases}
+use Rattle.base.specs.Choice.{cases}
 use Rattle.config.specs.declared.Profiles.{Profiles}
 use Rattle.config.specs.declared.Settings.{Settings}
-use Rattle.control.specs.Speed.{Speed, Agree}
+use Rattle.control.specs.Speed.{Agree}
 use Rattle.control_line.specs.Ring.{waiting}
 use Rattle.manager.specs.declared.Manager.{Manager}
 use Rattle.passes.specs.Laws.{speedAt}
@@ -17,10 +17,10 @@ use Rattle.pid_list.specs.Rules.{entries}
 use Rattle.rounds.specs.declared.Outcome.{Outcome}
 use Rattle.obd2.specs.Calls.{startOf, nextOf, resultOf}
 use Rattle.obd2.specs.History.{Call, register, leave, ask, collect, giveUp, response, profilePidsChanged, waiting as waits, consumed, tick, settings, takeControl, connect, connectFailed, reconnectCheck, begin, next, result, Calls, none, more, step, run, happened}
-use Rattle.obd2.specs.Refusals.{roundOpen, resultDue, nextRefusal, resultRefusal}
+use Rattle.obd2.specs.Refusals.{roundOpen, nextRefusal, resultRefusal}
 use Rattle.obd2.specs.declared.State.{State}
 use Rattle.agreement.specs.Agreed.{agreed-settled}
-use Rattle.agreement.specs.Claim.{Reading, read, readStart, tracked, OfRound, takeAll, boxAfter, readAfter, AgreementAfter, due, ending, RoundEnds, Claim}
+use Rattle.agreement.specs.Claim.{Reading, read, OfRound, takeAll, boxAfter, readAfter, AgreementAfter, RoundEnds, Claim}
 use Rattle.agreement.specs.Ends.{ends, run-few, start-few, few-left, ending-round, ending-length}
 use Rattle.agreement.specs.Reads.{readOff, run-read, start-read}
 use Rattle.agreement.specs.Start.{start-good}

@@ -1,24 +1,19 @@
 -- The last accepted time is one that the box takes, so a call at that time is not refused for it.
-use mathlib.Core.Bool.{Bool, true, false}
+use mathlib.Core.Bool.{false}
 use mathlib.Core.List.{List, [], _∷_}
-use mathlib.Core.Path.{_≡_, refl, ap, sym, _∙_}
+use mathlib.Core.Path.{_≡_, refl}
 use Prim.Native.Nat.{ℕ, _≤_}
 use native.Mathlib.Omega.{arith}
-use lib.Dec.{ltb, eqb}
-use lib.ListN.{length}
+use lib.Dec.{eqb}
 use borrow.Author.Tests.{le-ltb, ltb-false, eqb-true}
-use Rattle.base.specs.Choice.{cases, false-true}
+use Rattle.base.specs.Choice.{cases}
 use Rattle.base.specs.Refusal.{firstOf}
-use Rattle.config.specs.Defaults.{defaultSettings}
 use Rattle.config.specs.declared.Profiles.{Profiles}
 use Rattle.config.specs.declared.Settings.{Settings}
-use Rattle.control_line.specs.Ring.{takeOf}
-use Rattle.control_line.specs.declared.Taken.{Taken}
-use Rattle.control_line.specs.declared.Taken.the-variants.{Message, Nothing}
-use Rattle.obd2.specs.Calls.{settled, takenBy, startOf, registerOf, leaveCallOf, askOf, collectOf, giveUpOf, respondOf, profilesOf, waitingOf, consumedOf, tickCallOf, settingsOf, takeControlOf, connectOf, connectFailedOf, reconnectCheckOf, beginOf, nextOf, resultOf}
+use Rattle.obd2.specs.Calls.{settled, startOf, registerOf, leaveCallOf, askOf, collectOf, giveUpOf, respondOf, profilesOf, waitingOf, consumedOf, tickCallOf, settingsOf, takeControlOf, connectOf, connectFailedOf, reconnectCheckOf, beginOf, nextOf, resultOf}
 use Rattle.obd2.specs.History.{Call, register, leave, ask, collect, giveUp, response, profilePidsChanged, waiting, consumed, tick, settings, takeControl, connect, connectFailed, reconnectCheck, begin, next, result, step, run}
 use Rattle.obd2.specs.Refusals.{Rows, badTime, startRefusal, registerRefusal, askRefusal, collectRefusal, giveUpRefusal, responseRefusal, profilesRefusal, consumedRefusal, eventRefusal, settingsRefusal, closedRefusal, connectRefusal, nextRefusal, resultRefusal}
-use Rattle.obd2.specs.State.{managed, withLine, started}
+use Rattle.obd2.specs.State.{started}
 use Rattle.obd2.specs.declared.State.{State}
 use Rattle.obd2.specs.declared.Answered.{Answered}
 use Rattle.obd2.specs.Accepted.{top, good-time}

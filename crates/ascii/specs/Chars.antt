@@ -1,10 +1,10 @@
 -- Letters and hex digits in ASCII: `0` is 48, `9` 57, `A` 65, `F` 70, `a` 97, `f` 102, `z` 122.
-use mathlib.Core.Bool.{Bool, true, false, _&&_}
-use mathlib.Core.Path.{_≡_, refl}
-use Prim.Native.Nat.{ℕ, _+_, _-_, _%_, _≤_, _<_}
+use mathlib.Core.Bool.{Bool, true, _&&_}
+use mathlib.Core.Path.{_≡_}
+use Prim.Native.Nat.{ℕ, _+_, _-_, _%_, _≤_}
 use native.Mathlib.Omega.{arith}
 use lib.Dec.{leb, ltb}
-use borrow.Author.Tests.{leb-true, leb-false, ltb-true, ltb-false}
+use borrow.Author.Tests.{leb-true}
 use Rattle.base.specs.Choice.{pick, cases, false-true}
 
 unfoldable pub between : ℕ → ℕ → ℕ → Bool

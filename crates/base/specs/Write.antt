@@ -1,11 +1,11 @@
 -- Bytes written into lent memory, and what of it stays.
 use mathlib.Core.List.{List, [], _∷_, _++_, append-assoc, append-nil}
-use mathlib.Core.Path.{_≡_, refl, ap, sym, _∙_}
-use Prim.Native.Nat.{ℕ, suc, _+_, _-_, _<_, _≤_}
+use mathlib.Core.Path.{_≡_, ap, sym, _∙_}
+use Prim.Native.Nat.{ℕ, _+_, _-_, _<_, _≤_}
 use native.Mathlib.Omega.{arith}
 use native.Mathlib.Numerals.{add-one}
 use lib.ListN.{length, take, drop, set, length-append, length-take, length-drop, take-append-drop, drop-of-length-le}
-use lib.Seq.{length-take-le, take-all, take-length, take-at, drop-at, drop-append-add, drop-drop, set-split}
+use lib.Seq.{length-take-le, take-all, take-length, take-at, drop-append-add, drop-drop, set-split}
 
 -- The memory d with the text s written from the place at; before and behind it d is as it was.
 unfoldable pub over : List ℕ → ℕ → List ℕ → List ℕ

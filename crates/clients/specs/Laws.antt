@@ -10,7 +10,7 @@ use lib.ListN.{length, set, getD, drop, length-set, drop-of-length-le, replicate
 use lib.Seq.{drop-cons, getD-set-same, getD-set-other}
 use borrow.Author.Tests.{ltb-true, eqb-true, eqb-false, lt-ltb, le-ltb, eq-eqb, ne-eqb}
 use Rattle.base.specs.Both.{never}
-use Rattle.base.specs.Choice.{pick, one, cases}
+use Rattle.base.specs.Choice.{pick, cases}
 use Rattle.base.specs.Times.{times}
 use Rattle.clients.specs.Rules.{places, idle, nobody, newcomer, placeOf, markedOf, takenOf, waitingOf, idledOf, findOf, registeredOf, seatOf, numbersOf, freshIn}
 use Rattle.clients.specs.declared.Client.{Client}

@@ -1,7 +1,7 @@
 -- What a command's bytes ask for, while connected: document 01, "Commands (desk)", step by step.
 use mathlib.Core.Bool.{Bool, true, false, _&&_}
 use mathlib.Core.List.{List, [], _∷_}
-use Prim.Native.Nat.{ℕ, zero, suc, _+_, _-_, _*_, _%_}
+use Prim.Native.Nat.{ℕ, suc, _+_, _-_, _*_, _%_}
 use lib.Dec.{leb, ltb, eqb}
 use lib.ListN.{length, getD, take}
 use Rattle.ascii.specs.Chars.{upper, hexValue}

@@ -1,8 +1,8 @@
 -- Laws of the definitions of `Classify`.
 use mathlib.Core.Bool.{Bool, true, false, _&&_}
 use mathlib.Core.List.{List, [], _∷_}
-use mathlib.Core.Path.{_≡_, refl, ap, sym, _∙_}
-use Prim.Native.Nat.{ℕ, suc, _+_, _-_, _%_, _<_, _≤_}
+use mathlib.Core.Path.{_≡_, refl, ap, sym}
+use Prim.Native.Nat.{ℕ, _+_, _-_, _%_, _<_, _≤_}
 use native.Mathlib.Omega.{arith}
 use native.Mathlib.Numerals.{add-one}
 use lib.Dec.{eqb, leb}
@@ -10,7 +10,7 @@ use lib.ListN.{length, getD, take, drop, drop-of-length-le}
 use lib.Seq.{drop-cons, take-all, getD-take, length-take-le}
 use borrow.Author.Tests.{le-leb, leb-true, leb-false}
 use Rattle.ascii.specs.Chars.{upper}
-use Rattle.base.specs.Choice.{pick, cases}
+use Rattle.base.specs.Choice.{cases}
 use Rattle.command.specs.Classify.{sameText, indexOf, rangeTexts, stripped, pidOf, commandOf}
 
 -- Two texts of different lengths differ.

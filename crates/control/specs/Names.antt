@@ -1,8 +1,7 @@
 -- Messages that name PIDs below a bound: a PID is a byte.
-use mathlib.Core.Bool.{true, false}
 use mathlib.Core.List.{List, [], _∷_, _++_}
 use Prim.Native.Nat.{ℕ, _<_}
-use Rattle.base.specs.Choice.{pick, cases}
+use Rattle.base.specs.Choice.{cases}
 use Rattle.control.specs.Speed.{Speed, fast, slow, untracked, named}
 use Rattle.control.specs.Told.{sameSpeed, messageOf, toldOf}
 use Rattle.control.specs.declared.DongleMessage.{DongleMessage}

@@ -1,8 +1,7 @@
 -- What a control message says of each PID, and when two lists agree with it. The poller's laws and the
 -- manager's are both about these names, so that what the manager sends can be held to what the poller lists.
-use mathlib.Core.Bool.{Bool, true, false}
 use mathlib.Core.List.{List, [], _∷_, _++_}
-use mathlib.Core.Path.{_≡_, refl, ap, _∙_}
+use mathlib.Core.Path.{_≡_, refl}
 use Prim.Native.Nat.{ℕ}
 use lib.Dec.{eqb}
 use Rattle.base.specs.Choice.{pick}

@@ -1,23 +1,22 @@
 -- Laws of the control line: what is pushed waits last, what is taken was first.
-use mathlib.Core.Bool.{true, false}
+use mathlib.Core.Bool.{false}
 use mathlib.Core.List.{List, [], _∷_, _++_, append-assoc, append-nil}
 use mathlib.Core.Path.{_≡_, refl, ap, sym, _∙_}
 use Prim.Native.Nat.{ℕ, zero, suc, _+_, _-_, _%_, _<_, _≤_, min}
-use native.Mathlib.Nat.{mod-eq-of-lt, mod-mod}
 use native.Mathlib.Omega.{arith}
 use native.Mathlib.Numerals.{add-one}
 use lib.Dec.{ltb, eqb}
 use lib.ListN.{length, getD, set, take, drop, length-set, length-map, length-take, length-replicate, List·getD-map, drop-of-length-le}
 use lib.Seq.{getD-set-same, getD-set-other, getD-take, drop-cons}
-use borrow.Author.Tests.{lt-ltb, le-ltb, ltb-true, ne-eqb, eq-eqb, eqb-true, eqb-false}
-use Rattle.base.specs.Choice.{pick, cases}
+use borrow.Author.Tests.{lt-ltb, ltb-true, ne-eqb, eq-eqb}
+use Rattle.base.specs.Choice.{cases}
 use Rattle.control.specs.Outbox.{slotOf, messages}
 use Rattle.control.specs.declared.outbox.Outbox.{Outbox}
 use Rattle.control.specs.declared.DongleMessage.{DongleMessage}
 use Rattle.control.specs.declared.outbox.Slot.{Slot}
 use Rattle.control_line.specs.declared.ControlLine.{ControlLine}
 use Rattle.control_line.specs.declared.Taken.the-variants.{Message, Nothing}
-use Rattle.control_line.specs.Ring.{unused, emptyLine, freeOf, pushOf, pushAllOf, takeOf, from, waiting}
+use Rattle.control_line.specs.Ring.{unused, emptyLine, pushOf, pushAllOf, takeOf, from, waiting}
 
 -- A line as the box holds it: all its places, and no more messages than places.
 pub record Sound (l : ControlLine) : Type 0 where

@@ -1,7 +1,6 @@
 -- The control line: document 01, "Control messages wait in 1,024 places, reused."
-use mathlib.Core.Bool.{Bool, true, false}
 use mathlib.Core.List.{List, [], _∷_}
-use Prim.Native.Nat.{ℕ, zero, suc, _+_, _-_, _%_, min}
+use Prim.Native.Nat.{ℕ, zero, suc, _+_, _-_, _%_}
 use lib.Dec.{ltb, eqb}
 use lib.ListN.{getD, set, replicate}
 use Rattle.base.specs.Choice.{pick}
@@ -11,7 +10,6 @@ use Rattle.control.specs.declared.DongleMessage.{DongleMessage}
 use Rattle.control.specs.declared.DongleMessage.the-variants.{SetPidPriority}
 use Rattle.control.specs.declared.outbox.Slot.{Slot}
 use Rattle.control_line.specs.declared.ControlLine.{ControlLine}
-use Rattle.control_line.specs.declared.Taken.{Taken}
 use Rattle.control_line.specs.declared.Taken.the-variants.{Message, Nothing}
 use Rattle.control_line.specs.declared.Shorter.{Shorter}
 

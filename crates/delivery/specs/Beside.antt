@@ -1,5 +1,5 @@
 -- The desk of an answer in two parts: the store of replies, and what a response changes beside it.
-use mathlib.Core.Bool.{Bool, true, false}
+use mathlib.Core.Bool.{Bool}
 use mathlib.Core.List.{List, map}
 use mathlib.Core.Path.{_≡_}
 use Prim.Native.Nat.{ℕ}

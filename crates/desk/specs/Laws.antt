@@ -13,7 +13,7 @@ use Rattle.base.specs.Both.{never}
 use Rattle.base.specs.Choice.{pick, one, cases}
 use Rattle.base.specs.Refusal.{not-here, not-next}
 use Rattle.base.specs.Times.{times, times-set}
-use Rattle.clients.specs.Rules.{places, idle, nobody, newcomer, placeOf, registeredOf, numbersOf, freshIn}
+use Rattle.clients.specs.Rules.{places, idle, newcomer, placeOf, registeredOf, numbersOf, freshIn}
 use Rattle.clients.specs.Laws.{find-at, found-number, find-put-same, find-put-new, find-put-other, place-put-same, place-put-other, numbers-set, numbers-at, numbers-length, absent-place, place-absent, place-present, registered-place, registered-some, newcomer-number, newcomer-wait, newcomer-fresh, newcomer-long}
 use Rattle.clients.specs.declared.Wait.{Wait}
 use Rattle.clients.specs.declared.Client.{Client}

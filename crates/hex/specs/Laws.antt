@@ -5,15 +5,14 @@ use mathlib.Core.Path.{_≡_, refl, ap, sym, _∙_}
 use Prim.Native.Nat.{ℕ, zero, suc, _+_, _-_, _*_, _/_, _%_, _<_, _≤_}
 use native.Mathlib.Omega.{arith}
 use native.Mathlib.Numerals.{add-one}
-use lib.Dec.{eqb, leb, ltb}
-use lib.ListN.{length, getD, take, drop, set, length-append, length-drop, length-set, drop-of-length-le}
+use lib.Dec.{eqb, ltb}
+use lib.ListN.{length, getD, take, drop, set, length-drop, length-set, drop-of-length-le}
 use lib.Seq.{drop-cons, take-suc, take-all, length-take-le}
-use borrow.Author.Tests.{le-leb, lt-leb, lt-ltb, le-ltb, ltb-true, eq-eqb, ne-eqb}
+use borrow.Author.Tests.{lt-ltb, le-ltb, ltb-true, eq-eqb, ne-eqb}
 use Rattle.ascii.specs.Chars.{hexValue, hexDigit}
-use Rattle.base.specs.Choice.{pick, cases, false-true}
+use Rattle.base.specs.Choice.{false-true}
 use Rattle.base.specs.Write.{over, over-none, over-one, over-length, over-over, over-cons}
-use Rattle.hex.specs.declared.Bytes.{Bytes}
-use Rattle.hex.specs.declared.Bytes.the-variants.{Count, Bad, Short}
+use Rattle.hex.specs.declared.Bytes.the-variants.{Bad}
 use Rattle.hex.specs.Pairs.{isHex, pairOf, hexes, isPairs, pairs, bytesOf, readOf, plainOf, copyOf, commandOf, commandBytes, hexText}
 
 pub digit-within : (b : ℕ) → hexValue b ≤ 15 → isHex b ≡ true

@@ -1,6 +1,6 @@
 -- Bytes as text: history-format.md, "A PID is two hex digits. Bytes are pairs of hex digits. Input takes hex
 -- digits in either case, output is upper case", and its token COMMAND. 39 is `'`, 120 is `x`.
-use mathlib.Core.Bool.{Bool, true, false, _&&_}
+use mathlib.Core.Bool.{Bool, true, _&&_}
 use mathlib.Core.List.{List, [], _∷_}
 use Prim.Native.Nat.{ℕ, _+_, _*_, _/_, _%_}
 use lib.Dec.{eqb, leb, ltb}

@@ -2,7 +2,7 @@
 use mathlib.Core.Bool.{false}
 use mathlib.Core.List.{[], _∷_, _++_}
 use mathlib.Core.Path.{_≡_, _∙_}
-use Prim.Native.Nat.{ℕ, suc, _+_, _-_, _<_, _≤_, min}
+use Prim.Native.Nat.{ℕ, suc, _+_, _<_, _≤_, min}
 use native.Mathlib.Omega.{arith}
 use native.Mathlib.Numerals.{add-one}
 use lib.ListN.{length, getD, take, drop, length-take, drop-of-length-le}

@@ -1,15 +1,15 @@
 -- Laws of the definitions of `Reading`. THE LINE: in whatever parts its bytes come, the memory holds as many of them
 -- as it has room for, and the line is long exactly where it has more.
-use mathlib.Core.Bool.{Bool, true, false, not}
+use mathlib.Core.Bool.{true, false, not}
 use mathlib.Core.List.{List, [], _∷_, _++_, append-nil}
 use mathlib.Core.Path.{_≡_, refl, ap, sym, _∙_}
 use Prim.Native.Nat.{ℕ, zero, suc, _+_, _-_, _<_, _≤_, min}
 use native.Mathlib.Omega.{arith}
 use lib.Dec.{eqb, leb, ltb}
-use lib.ListN.{length, take, drop, getD, length-append, length-take}
-use lib.Seq.{length-take-le, take-all, take-nil, take-append-le, take-append-add}
-use borrow.Author.Tests.{leb-true, leb-false, le-leb, lt-leb, lt-ltb, le-ltb, ltb-true, ltb-false, eq-eqb, ne-eqb}
-use Rattle.base.specs.Choice.{pick, cases}
+use lib.ListN.{length, take, getD, length-append, length-take}
+use lib.Seq.{take-all, take-nil, take-append-le, take-append-add}
+use borrow.Author.Tests.{leb-true, leb-false, le-leb, lt-leb, lt-ltb, le-ltb, ltb-true, ltb-false}
+use Rattle.base.specs.Choice.{cases}
 use Rattle.base.specs.Write.{over, over-length, take-over}
 use Rattle.text.specs.Cut.{placeOf, headOf, place-le}
 use Rattle.lines.specs.declared.Reading.{Reading}

@@ -1,18 +1,16 @@
 -- The lines of an input, and that a reading in parts gives them: history-format.md, "a line ends with a line feed ..
 -- a last line without one is a line".
-use mathlib.Core.Bool.{Bool, true, false}
 use mathlib.Core.List.{List, [], _∷_, _++_, append-assoc, append-nil}
 use mathlib.Core.Path.{_≡_, refl, ap, sym, _∙_}
 use Prim.Native.Nat.{ℕ, _+_, _<_, _≤_}
 use native.Mathlib.Omega.{arith}
-use lib.Dec.{eqb, ltb}
+use lib.Dec.{eqb}
 use lib.ListN.{length}
-use borrow.Author.Tests.{ltb-true, ltb-false}
-use Rattle.base.specs.Choice.{pick, one, cases}
+use Rattle.base.specs.Choice.{pick, cases}
 use Rattle.base.specs.Times.{times}
 use Rattle.text.specs.Cut.{placeOf, headOf, tailOf, head-none, cut-whole, cut-none}
 use Rattle.lines.specs.declared.Reading.{Reading}
-use Rattle.lines.specs.Reading.{keptOf, keptBytes, fedOf}
+use Rattle.lines.specs.Reading.{keptOf, keptBytes}
 use Rattle.lines.specs.Laws.{Holds, holds-more}
 
 -- The lines from within a line whose bytes so far are given.

@@ -1,5 +1,4 @@
 -- Each call's definition, as the program tests its refusals: what the proofs of the functions cite.
-use mathlib.Core.Bool.{false}
 use mathlib.Core.List.{[], _∷_}
 use mathlib.Core.Path.{_≡_, refl, _∙_}
 use Prim.Native.Nat.{ℕ}

@@ -94,7 +94,7 @@ fn no_table() -> [PidInfo; 256]
 }
 
 // What a list of profiles makes of a table, and what is sent because of it.
-pub fn register(table: [PidInfo; 256], terms: Terms) -> Ledger
+fn register(table: [PidInfo; 256], terms: Terms) -> Ledger
     ensures { λ r. ⌜ r ≡ registerOf terms table ⌝ }
 {
     let outbox = control::outbox::empty();

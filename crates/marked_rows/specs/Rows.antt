@@ -10,15 +10,14 @@ use Rattle.capture.specs.Format.{recordBytes, le}
 use Rattle.command.specs.Classify.{commandOf, stripped, sameText, rangeTexts, indexOf, pidOf}
 use Rattle.command.specs.declared.Command.{Command}
 use Rattle.command.specs.declared.Command.the-variants as command
-use Rattle.config.specs.declared.PidPriority.the-variants.{Fast, Slow}
+use Rattle.config.specs.declared.PidPriority.the-variants.{Slow}
 use Rattle.delivery.specs.Rules.{revsAfter}
-use Rattle.desk.specs.declared.Revs.{Revs}
 use Rattle.pid_list.specs.Rules.{entries, sizeOf, place, wrap, swapOut, appendOf, fitOf, removeOf, setOf, nextOf}
 use Rattle.pid_list.specs.declared.PidList.{PidList}
 use Rattle.pid_table.specs.Entry.{isFast, promotesOf, consumedOf, oneMore, pastOf, looseOf, idleOf, removedOf}
 use Rattle.pid_table.specs.declared.PidInfo.{PidInfo}
 use Rattle.pid_table.specs.declared.LastTime.the-variants.{Never, At}
-use Rattle.pid_table.specs.declared.WaitDuration.the-variants.{Hit, Miss}
+use Rattle.pid_table.specs.declared.WaitDuration.the-variants.{Miss}
 use Rattle.reply.specs.Rules.{valueOf, dataBytes, firstLine, firstLengthOf, lengthsOf, countedOf, foldOf}
 use Rattle.reply.specs.declared.Reply.{Reply}
 

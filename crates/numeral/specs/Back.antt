@@ -1,16 +1,14 @@
 -- What is written is read back: the text of a number of 64 bits is that number.
-use mathlib.Core.Bool.{Bool, true, false, _&&_}
 use mathlib.Core.List.{List, [], _∷_}
-use mathlib.Core.Path.{_≡_, refl, ap, sym, _∙_}
+use mathlib.Core.Path.{_≡_, _∙_}
 use Prim.Native.Nat.{ℕ, zero, suc, _+_, _-_, _*_, _/_, _%_, _<_, _≤_}
 use native.Mathlib.Omega.{arith}
-use lib.Dec.{eqb, leb, ltb}
+use lib.Dec.{ltb}
 use lib.ListN.{length}
-use borrow.Author.Tests.{le-leb, ltb-true, ltb-false}
+use borrow.Author.Tests.{le-leb, ltb-true}
 use Rattle.ascii.specs.Chars.{between}
-use Rattle.base.specs.Choice.{pick, cases}
-use Rattle.numeral.specs.declared.Number.{Number}
-use Rattle.numeral.specs.declared.Number.the-variants.{Value, Bad}
+use Rattle.base.specs.Choice.{cases}
+use Rattle.numeral.specs.declared.Number.the-variants.{Value}
 use Rattle.numeral.specs.Decimal.{numberFrom, numberOf, digitsOnto, decimalText}
 use Rattle.numeral.specs.Laws.{number-some}
 

@@ -1,6 +1,5 @@
 -- Decimal numbers as text: history-format.md, "Numbers are decimal, without sign .. Leading zeros are taken."
 -- 48 is the digit `0`, 57 is `9`.
-use mathlib.Core.Bool.{Bool, true, false}
 use mathlib.Core.List.{List, [], _∷_}
 use Prim.Native.Nat.{ℕ, zero, suc, _+_, _-_, _*_, _/_, _%_}
 use lib.Dec.{eqb, leb, ltb}

@@ -1,8 +1,8 @@
 -- What an accepted call's table of refusals tells: its time is one that the box takes, its messages have room, and
 -- no round is open where none may be.
-use mathlib.Core.Bool.{Bool, true, false, not, _||_}
-use mathlib.Core.List.{List, [], _∷_}
-use mathlib.Core.Path.{_≡_, refl, sym}
+use mathlib.Core.Bool.{Bool, true, false}
+use mathlib.Core.List.{_∷_}
+use mathlib.Core.Path.{_≡_, sym}
 use Prim.Native.Nat.{ℕ, _≤_}
 use native.Mathlib.Omega.{arith}
 use lib.Dec.{ltb}
@@ -10,13 +10,12 @@ use borrow.Author.Tests.{ltb-false}
 use Rattle.base.specs.Choice.{cases, false-true}
 use Rattle.base.specs.Refusal.{firstOf, not-here, not-next}
 use Rattle.config.specs.declared.Profiles.{Profiles}
-use Rattle.config.specs.declared.Settings.{Settings}
 use Rattle.delivery.specs.Rules.{unfit}
 use Rattle.link.specs.declared.Session.{Session}
 use Rattle.manager.specs.declared.Answer.{Answer as Managed}
 use Rattle.pid_table.specs.declared.WaitDuration.{WaitDuration}
 use Rattle.reply.specs.declared.Response.{Response}
-use Rattle.obd2.specs.Refusals.{Rows, badTime, crowded, roundOpen, resultDue, registerRefusal, askRefusal, collectRefusal, giveUpRefusal, responseRefusal, profilesRefusal, consumedRefusal, eventRefusal, settingsRefusal, closedRefusal, connectRefusal, nextRefusal, resultRefusal}
+use Rattle.obd2.specs.Refusals.{Rows, badTime, crowded, roundOpen, resultDue, registerRefusal, responseRefusal, profilesRefusal, consumedRefusal, eventRefusal, closedRefusal, connectRefusal, nextRefusal, resultRefusal}
 use Rattle.obd2.specs.declared.State.{State}
 
 -- The rows behind the first, and the first, of a table of which none holds. A refusal's number is above 0.

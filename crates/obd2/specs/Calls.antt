@@ -1,7 +1,6 @@
 -- What each call answers and leaves: document 01's rules for desk, manager and poller, put together. A refused
 -- call answers its number and changes nothing.
-use mathlib.Core.Bool.{Bool, true, false}
-use mathlib.Core.List.{List, [], _∷_}
+use mathlib.Core.List.{List}
 use Prim.Native.Nat.{ℕ, _+_}
 use lib.Dec.{eqb}
 use lib.ListN.{length}
@@ -18,7 +17,7 @@ use Rattle.control_line.specs.Ring.{takeOf}
 use Rattle.control_line.specs.declared.Taken.{Taken}
 use Rattle.control_line.specs.declared.Taken.the-variants.{Message, Nothing}
 use Rattle.delivery.specs.Rules.{responseOf}
-use Rattle.desk.specs.Rules.{entered, leaveOf, clientOf, waitOf, putClient}
+use Rattle.desk.specs.Rules.{entered, leaveOf, clientOf, putClient}
 use Rattle.clients.specs.Rules.{idledOf}
 use Rattle.link.specs.declared.Session.{Session}
 use Rattle.manager.specs.Calls.{changedOf, waitingCallOf, consumedCallOf, tickOf}
@@ -38,7 +37,7 @@ use Rattle.rounds.specs.declared.Step.the-variants as step
 use Rattle.rounds.specs.declared.Outcome.{Outcome}
 use Rattle.reply.specs.Rules.{filledOf}
 use Rattle.reply.specs.declared.Response.{Response}
-use Rattle.waits.specs.Rules.{awaited, awaitedReply, collectedOf}
+use Rattle.waits.specs.Rules.{awaitedReply, collectedOf}
 use Rattle.obd2.specs.State.{withDesk, withPoller, withLine, withProfiles, withSettings, at, managed, termsOf, noDetails, reporting, linesOf, delivering, querying, answered, started}
 use Rattle.obd2.specs.Refusals.{startRefusal, registerRefusal, askStep, askRefusal, collectRefusal, giveUpRefusal, responseRefusal, profilesRefusal, consumedRefusal, eventRefusal, settingsRefusal, closedRefusal, connectRefusal, nextRefusal, resultRefusal}
 use Rattle.obd2.specs.declared.State.{State}

@@ -10,7 +10,7 @@ use Rattle.link.specs.declared.Session.{Session}
 use Rattle.pid_table.specs.declared.WaitDuration.{WaitDuration}
 use Rattle.rounds.specs.declared.Outcome.{Outcome}
 use Rattle.reply.specs.declared.Response.{Response}
-use Rattle.obd2.specs.Calls.{startOf, registerOf, leaveCallOf, askOf, askArea, collectOf, collectArea, giveUpOf, respondOf, profilesOf, waitingOf, consumedOf, tickCallOf, settingsOf, takeControlOf, connectOf, connectFailedOf, reconnectCheckOf, beginOf, nextOf, resultOf}
+use Rattle.obd2.specs.Calls.{registerOf, leaveCallOf, askOf, askArea, collectOf, collectArea, giveUpOf, respondOf, profilesOf, waitingOf, consumedOf, tickCallOf, settingsOf, takeControlOf, connectOf, connectFailedOf, reconnectCheckOf, beginOf, nextOf, resultOf}
 use Rattle.obd2.specs.declared.State.{State}
 use Rattle.obd2.specs.declared.Answer.{Answer}
 use Rattle.obd2.specs.declared.Answer.the-variants as answer

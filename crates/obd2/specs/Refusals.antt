@@ -1,10 +1,9 @@
 -- The refusals of the box: document 01's table, call by call. Each call's rows stand in the table's order, so that
 -- the first whose condition holds has the lowest number.
-use mathlib.Core.Bool.{Bool, true, false, not, _&&_, _||_}
+use mathlib.Core.Bool.{Bool, not, _&&_, _||_}
 use mathlib.Core.List.{List, [], _∷_}
 use Prim.Native.Nat.{ℕ}
 use lib.Dec.{ltb, leb}
-use lib.ListN.{length}
 use Rattle.base.specs.Each.{someOf}
 use Rattle.base.specs.Refusal.{firstOf}
 use Rattle.cache.specs.Rules.{busy, handedOf, stepOf}

@@ -1,6 +1,6 @@
 -- The box's state: its setters, and the box that a start returns.
-use mathlib.Core.Bool.{Bool, true, false}
-use mathlib.Core.List.{List, []}
+use mathlib.Core.Bool.{Bool, false}
+use mathlib.Core.List.{List}
 use Prim.Native.Nat.{ℕ}
 use lib.ListN.{replicate}
 use Rattle.config.specs.declared.Settings.{Settings}
@@ -11,7 +11,6 @@ use Rattle.control_line.specs.declared.ControlLine.{ControlLine}
 use Rattle.desk.specs.Rules.{startDesk}
 use Rattle.desk.specs.declared.Desk.{Desk}
 use Rattle.manager.specs.Calls.{startOf}
-use Rattle.manager.specs.declared.Manager.{Manager}
 use Rattle.manager.specs.declared.Answer.{Answer as Managed}
 use Rattle.passes.specs.declared.Terms.{Terms}
 use Rattle.poller.specs.State.{noQuery}
@@ -20,7 +19,6 @@ use Rattle.poller.specs.declared.Poller.{Poller}
 use Rattle.poller.specs.declared.Query.{Query}
 use Rattle.report.specs.Report.{noReport}
 use Rattle.report.specs.declared.Report.{Report}
-use Rattle.reply.specs.declared.Reply.{Reply}
 use Rattle.obd2.specs.declared.State.{State}
 use Rattle.obd2.specs.declared.Answer.{Answer}
 use Rattle.obd2.specs.declared.Details.{Details}

@@ -12,7 +12,6 @@ use Rattle.config.specs.InForce.{inForce}
 use Rattle.control.specs.Speed.{Speed, afterAll, after-append}
 use Rattle.control.specs.Outbox.{sendAll, send-append, send-none}
 use Rattle.control.specs.Told.{toldOf, told-same, told-length, told-own, told-other}
-use Rattle.control.specs.declared.DongleMessage.{DongleMessage}
 use Rattle.pid_table.specs.Entry.{nobody, speed, registeredOf, demotesOf, demotedOf, removedOf, clearedOf}
 use Rattle.pid_table.specs.Laws.{cleared-speed, unwanted-speed, wanted-pinned, again-speed, pinned-kept, pinned-stays, demoted-kept, kept-same}
 use Rattle.pid_table.specs.declared.PidInfo.{PidInfo}

@@ -1,6 +1,6 @@
 -- SAE J1979, mode 01: how many data bytes each PID's reply line has, as the runs of PIDs that have the same number.
 -- PIDs in no run are those that pid.rs lists no length for.
-use mathlib.Core.Bool.{Bool, true, false, _&&_}
+use mathlib.Core.Bool.{_&&_}
 use mathlib.Core.List.{List, [], _∷_}
 use Prim.Native.Nat.{ℕ}
 use lib.Dec.{leb}

@@ -8,7 +8,7 @@ use lib.Dec.{ltb, eqb}
 use lib.ListN.{length, set, getD, take, drop, replicate, length-append, length-replicate, length-take, drop-of-length-le}
 use lib.Seq.{getD-take, take-nil, set-append-seam, take-append-seam, drop-append-add, sets, sets-eq, drop-cons}
 use borrow.Author.Tests.{ltb-true, ltb-false, eqb-true, eqb-false, eq-eqb, ne-eqb}
-use Rattle.base.specs.Choice.{pick, one, cases}
+use Rattle.base.specs.Choice.{pick, cases}
 use Rattle.plan.specs.Groups.{widthOf, members}
 use Rattle.plan.specs.Steps.{padded, lineSize, lineOf, keyIn, nearerOf, leastFrom, passed, chunkOf, gatherOf}
 use Rattle.plan.specs.declared.Plan.{Plan}

@@ -9,7 +9,7 @@ use lib.Dec.{ltb, eqb}
 use lib.ListN.{length, getD, take, drop, length-append, length-take, length-drop}
 use lib.Seq.{drop-nil, drop-drop, take-append-seam}
 use borrow.Author.Tests.{ltb-true, ltb-false, eqb-true, eqb-false, lt-ltb, eq-eqb, ne-eqb}
-use Rattle.base.specs.Choice.{pick, one, cases}
+use Rattle.base.specs.Choice.{pick, cases}
 use Rattle.pid_list.specs.Rules.{sizeOf, entries}
 use Rattle.pid_list.specs.Laws.{size-le, size-entries}
 use Rattle.pid_list.specs.declared.PidList.{PidList}

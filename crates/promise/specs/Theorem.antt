@@ -10,7 +10,6 @@ use Rattle.control_line.specs.Ring.{waiting}
 use Rattle.obd2.specs.Calls.{startOf}
 use Rattle.obd2.specs.History.{Call, takeControl, Calls, none, more, run, run-append}
 use Rattle.obd2.specs.Refusals.{roundOpen}
-use Rattle.obd2.specs.declared.State.{State}
 use Rattle.agreement.specs.Claim.{takeAll, boxAfter, ending}
 use Rattle.agreement.specs.Start.{start-good}
 use Rattle.agreement.specs.Steps.{run-good}

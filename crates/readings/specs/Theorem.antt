@@ -1,5 +1,4 @@
 -- The claim of `Claim`, proved: the box is as its history is read, from the start and over every list of calls.
-use mathlib.Core.Bool.{true, false}
 use mathlib.Core.List.{List, [], _∷_, _++_, append-assoc, append-nil}
 use mathlib.Core.Path.{_≡_, refl, ap, sym, _∙_}
 use Prim.Native.Nat.{ℕ, suc, _+_}

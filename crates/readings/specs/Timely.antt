@@ -1,5 +1,5 @@
 -- No accepted call is earlier than the last accepted one: refusal 1 stands first in every row of refusals.
-use mathlib.Core.Bool.{Bool, true, false}
+use mathlib.Core.Bool.{Bool}
 use mathlib.Core.List.{List, _∷_}
 use mathlib.Core.Path.{_≡_, sym}
 use Prim.Native.Nat.{ℕ, _≤_}

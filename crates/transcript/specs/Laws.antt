@@ -1,22 +1,19 @@
 -- Laws of the definitions of `Lines`: parts of an input one after the other write what the whole input does.
-use mathlib.Core.Bool.{Bool, true, false}
 use mathlib.Core.List.{List, [], _∷_, _++_, append-assoc, append-nil}
-use mathlib.Core.Path.{_≡_, refl, ap, sym, _∙_}
-use Prim.Native.Nat.{ℕ, zero, suc, _+_, _*_, _/_, _<_, _≤_, min}
+use mathlib.Core.Path.{_≡_, refl, sym}
+use Prim.Native.Nat.{ℕ, _+_, _*_, _/_, _<_, _≤_, min}
 use native.Mathlib.Omega.{arith}
 use native.Mathlib.Numerals.{add-one}
-use lib.Dec.{eqb, ltb}
-use lib.ListN.{length, take, getD, set, replicate, length-append, length-take, length-set}
-use lib.Seq.{take-suc, take-all, take-suc-set, take-take, take-append-le, take-append-add, length-take-le}
-use borrow.Author.Tests.{ltb-true, ltb-false, lt-ltb, le-ltb, eq-eqb, ne-eqb}
-use Rattle.base.specs.Choice.{pick, cases}
+use lib.Dec.{eqb}
+use lib.ListN.{length, take, getD, length-append}
+use lib.Seq.{take-suc, length-take-le}
+use Rattle.base.specs.Choice.{cases}
 use Rattle.base.specs.Write.{over, over-none, over-length, over-over}
 use Rattle.command.specs.Classify.{commandOf}
-use Rattle.command.specs.Laws.{class-of-six}
 use Rattle.command.specs.declared.Command.{Command}
 use Rattle.command.specs.declared.Command.the-variants.{Range, Pid, Unknown}
 use Rattle.transcript.specs.declared.Line.{Line}
-use Rattle.transcript.specs.Lines.{className, numberText, tailText, lastText, output, keptOf, keepOf, startLine, stepText, stepLine, partText, partLine, usable}
+use Rattle.transcript.specs.Lines.{className, numberText, tailText, keptOf, stepText, stepLine, partText, partLine, usable}
 
 pub tail-length : (c : Command) → length (tailText c) ≤ 9
 unfolding tailText className numberText

@@ -1,5 +1,4 @@
 -- What the program `commands` writes: document 01, "Commands (desk)". 9 is a tab, 10 a line feed.
-use mathlib.Core.Bool.{Bool, true, false}
 use mathlib.Core.List.{List, [], _∷_, _++_}
 use Prim.Native.Nat.{ℕ, _+_, _/_, _%_, min}
 use lib.Dec.{eqb, ltb}

@@ -1,16 +1,15 @@
 -- The parts of an input, however it is cut, together write the output of the whole; and of the whole each line
 -- is followed by its class and its number.
-use mathlib.Core.Bool.{Bool, true, false}
 use mathlib.Core.List.{List, [], _∷_, _++_, append-assoc, append-nil}
 use mathlib.Core.Path.{_≡_, refl, ap, sym, _∙_}
-use Prim.Native.Nat.{ℕ, zero, suc, _+_, _<_, _≤_}
+use Prim.Native.Nat.{ℕ, _+_, _≤_}
 use native.Mathlib.Omega.{arith}
 use native.Mathlib.Numerals.{add-one}
 use lib.Dec.{eqb, ltb, leb}
-use lib.ListN.{length, take, set, length-append, length-take, length-set}
+use lib.ListN.{length, take, length-append, length-take, length-set}
 use lib.Seq.{take-all, take-suc-set, take-append-le, take-take, length-take-le}
 use borrow.Author.Tests.{ltb-true, ltb-false, leb-true, leb-false, eqb-true, eqb-false, eq-eqb, ne-eqb}
-use Rattle.base.specs.Choice.{pick, cases, one}
+use Rattle.base.specs.Choice.{cases}
 use Rattle.base.specs.Times.{times}
 use Rattle.command.specs.Classify.{commandOf}
 use Rattle.command.specs.Laws.{class-of-six}

@@ -1,7 +1,7 @@
 -- `ascii::hex_value` meets its contract: each return rewrites with the tests that led there.
-use Rattle.ascii.specs.Chars.{between, between-low, hexValue}
+use Rattle.ascii.specs.Chars.{between-low, hexValue}
 use native.Mathlib.Omega.{arith}
-use mathlib.Core.Path.{_≡_, sym, _∙_}
+use mathlib.Core.Path.{sym, _∙_}
 use borrow.Author.Needs.{needs}
 use Rattle.ascii.proofs.hex_value.Statement.{statement}
 use Rattle.ascii.proofs.hex_value.Tie as tie

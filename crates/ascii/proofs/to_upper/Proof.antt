@@ -1,8 +1,7 @@
 -- `ascii::to_upper` meets its contract.
-use Rattle.ascii.specs.Chars.{between, between-low, upper}
+use Rattle.ascii.specs.Chars.{between-low, upper}
 use native.Mathlib.Omega.{arith}
-use mathlib.Core.Bool.{true}
-use mathlib.Core.Path.{_≡_, sym, _∙_}
+use mathlib.Core.Path.{sym, _∙_}
 use borrow.Author.Needs.{needs}
 use Rattle.ascii.proofs.to_upper.Statement.{statement}
 use Rattle.ascii.proofs.to_upper.Tie as tie

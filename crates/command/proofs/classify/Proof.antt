@@ -1,7 +1,6 @@
 -- `command::classify` meets its contract: the steps of document 01 in their order.
-use Rattle.command.specs.Classify.{commandOf, indexOf, rangeTexts, pidOf}
+use Rattle.command.specs.Classify.{commandOf}
 use borrow.Author.Tests.{lt-ltb, le-ltb}
-use mathlib.Core.Path.{_≡_, refl, sym, _∙_, ap}
 use borrow.Author.Needs.{needs}
 use Rattle.command.proofs.classify.Statement.{statement}
 use Rattle.command.proofs.classify.Tie as tie

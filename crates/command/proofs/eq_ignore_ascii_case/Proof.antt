@@ -2,7 +2,7 @@ use borrow.Author.Needs.{needs}
 use Rattle.command.specs.Laws.{same-length, same-next, same-stop, same-end}
 use Rattle.command.specs.Classify.{sameText}
 use borrow.Author.Tests.{eq-eqb, ne-eqb}
-use lib.ListN.{length, drop, length-map}
+use lib.ListN.{length, drop}
 use native.Mathlib.Omega.{arith}
 use Prim.Native.Nat.{_≤_, _-_}
 use mathlib.Core.Path.{_≡_, refl, sym, _∙_}

@@ -1,10 +1,10 @@
 -- `command::supported_pids_index` meets its contract. The invariant: what the search still has to find, from place i on.
 use borrow.Author.Needs.{needs}
 use Rattle.command.specs.Laws.{Sought, sought-here, sought-next, sought-end}
-use Rattle.command.specs.Classify.{rangeTexts, indexOf}
+use Rattle.command.specs.Classify.{rangeTexts}
 use native.Mathlib.Omega.{arith}
 use Prim.Native.Nat.{_≤_, _-_}
-use mathlib.Core.Path.{_≡_, refl, sym, _∙_}
+use mathlib.Core.Path.{_≡_, sym, _∙_}
 use Rattle.command.proofs.supported_pids_index.Statement.{statement}
 use Rattle.command.proofs.supported_pids_index.Tie as tie
 

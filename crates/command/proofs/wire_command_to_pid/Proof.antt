@@ -1,7 +1,6 @@
 -- `command::wire_command_to_pid` meets its contract: each return rewrites with the tests that led there.
 use Rattle.command.specs.Classify.{pidOf}
 use borrow.Author.Tests.{eq-eqb, ne-eqb, le-leb, lt-leb, lt-ltb, le-ltb}
-use mathlib.Core.Path.{_≡_, refl, sym, _∙_}
 use borrow.Author.Needs.{needs}
 use Rattle.command.proofs.wire_command_to_pid.Statement.{statement}
 use Rattle.command.proofs.wire_command_to_pid.Tie as tie

@@ -2,7 +2,6 @@
 use Rattle.transcript.specs.Laws.{fed-within}
 use Rattle.transcript.specs.Lines.{fedOf}
 use lib.ListN.{length, length-take}
-use mathlib.Core.Path.{ap}
 use Prim.Native.Nat.{_≤_}
 use native.Mathlib.Omega.{arith}
 use borrow.Author.Needs.{needs}

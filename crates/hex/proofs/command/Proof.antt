@@ -2,7 +2,7 @@
 use Rattle.hex.specs.Laws.{command-none, command-plain, command-pairs, command-other, rest-all}
 use Rattle.hex.specs.Pairs.{plainOf, copyOf, bytesOf, readOf}
 use lib.ListN.{length}
-use mathlib.Core.Path.{_≡_, sym, ap, _∙_}
+use mathlib.Core.Path.{sym, ap, _∙_}
 use borrow.Author.Needs.{needs}
 use Rattle.hex.proofs.command.Statement.{statement}
 use Rattle.hex.proofs.command.Tie as tie

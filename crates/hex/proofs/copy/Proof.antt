@@ -3,7 +3,7 @@ use Rattle.hex.specs.Pairs.{plainOf, copyOf}
 use Rattle.base.specs.Write.{over-copy}
 use borrow.Author.Tests.{le-leb, lt-leb}
 use lib.ListN.{length}
-use mathlib.Core.Path.{_≡_, sym, _∙_}
+use mathlib.Core.Path.{_∙_}
 use native.Mathlib.Omega.{arith}
 use borrow.Author.Needs.{needs}
 use Rattle.hex.proofs.copy.Statement.{statement}

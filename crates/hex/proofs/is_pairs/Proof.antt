@@ -1,10 +1,10 @@
 use Rattle.hex.specs.Laws.{digit-past, digit-within, hexes-other, hexes-next, hexes-end}
-use Rattle.hex.specs.Pairs.{isHex, isPairs, hexes}
-use borrow.Author.Tests.{eq-eqb, ne-eqb, lt-ltb, le-ltb}
+use Rattle.hex.specs.Pairs.{isPairs, hexes}
+use borrow.Author.Tests.{eq-eqb, ne-eqb}
 use borrow.Author.Needs.{needs}
 use lib.ListN.{length, drop}
 use Prim.Native.Nat.{_≤_, _-_}
-use mathlib.Core.Path.{_≡_, refl, sym, _∙_}
+use mathlib.Core.Path.{_≡_, sym, _∙_}
 use native.Mathlib.Omega.{arith}
 use Rattle.hex.proofs.is_pairs.Statement.{statement}
 use Rattle.hex.proofs.is_pairs.Tie as tie

@@ -1,7 +1,6 @@
 -- `hex::pid` meets its contract.
 use Rattle.hex.specs.Pairs.{pidOf, isHex, pairOf}
 use borrow.Author.Tests.{eq-eqb, ne-eqb, lt-ltb, le-ltb}
-use mathlib.Core.Path.{_≡_, sym, _∙_}
 use borrow.Author.Needs.{needs}
 use Rattle.hex.proofs.pid.Statement.{statement}
 use Rattle.hex.proofs.pid.Tie as tie

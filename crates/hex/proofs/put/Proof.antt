@@ -2,13 +2,12 @@ use Rattle.hex.specs.Laws.{text-length, Filled, filled-none, filled-same
 use Rattle.hex.specs.Pairs.{hexText}
 use Rattle.text.specs.Put.{putOf, putEnd, put-full, end-full, put-fits, end-fits}
 use Rattle.base.specs.Write.{over}
-use borrow.Author.Tests.{le-leb}
 use borrow.Author.Needs.{needs}
 use lib.Seq.{take-all}
-use lib.ListN.{length, take, drop, length-set}
+use lib.ListN.{length, length-set}
 use mathlib.Core.List.{List}
-use Prim.Native.Nat.{ℕ, _≤_, _<_, _-_, _+_, _*_, _/_}
-use mathlib.Core.Path.{_≡_, refl, sym, ap, _∙_}
+use Prim.Native.Nat.{ℕ, _≤_, _<_, _-_, _+_, _*_}
+use mathlib.Core.Path.{_≡_, sym, ap, _∙_}
 use native.Mathlib.Omega.{arith}
 use Rattle.hex.proofs.put.Statement.{statement}
 use Rattle.hex.proofs.put.Tie as tie

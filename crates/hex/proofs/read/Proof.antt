@@ -1,10 +1,7 @@
 -- `hex::read` meets its contract.
 use Rattle.hex.specs.Pairs.{bytesOf, readOf}
 use borrow.Author.Tests.{le-leb, lt-leb, not-true, not-false}
-use lib.ListN.{length}
-use Prim.Native.Nat.{_/_}
-use mathlib.Core.Path.{_≡_, sym, _∙_}
-use native.Mathlib.Omega.{arith}
+use mathlib.Core.Path.{sym, _∙_}
 use borrow.Author.Needs.{needs}
 use Rattle.hex.proofs.read.Statement.{statement}
 use Rattle.hex.proofs.read.Tie as tie

@@ -1,11 +1,10 @@
-use Rattle.ascii.specs.Chars.{hexValue}
 use lib.ListN.{length-set}
 use lib.Seq.{take-all}
 use Rattle.hex.specs.Laws.{pairs-digit, pairs-length, pairs-at, over-next}
-use Rattle.hex.specs.Pairs.{isPairs, pairs, pairOf}
+use Rattle.hex.specs.Pairs.{pairs, pairOf}
 use Rattle.base.specs.Write.{over, over-none}
 use borrow.Author.Needs.{needs}
-use lib.ListN.{length, take, drop}
+use lib.ListN.{length, take}
 use Prim.Native.Nat.{_≤_, _-_, _*_, _+_, _/_}
 use mathlib.Core.Path.{_≡_, sym, ap, _∙_}
 use native.Mathlib.Omega.{arith}

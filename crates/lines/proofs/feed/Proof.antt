@@ -3,8 +3,7 @@ use Rattle.lines.specs.Reading.{fedOf}
 use Rattle.text.specs.Cut.{headOf, place-le}
 use borrow.Author.Tests.{lt-ltb, le-ltb}
 use lib.Seq.{length-take-le}
-use mathlib.Core.Path.{_≡_, sym, ap, _∙_}
-use native.Mathlib.Omega.{arith}
+use mathlib.Core.Path.{sym}
 use borrow.Author.Needs.{needs}
 use Rattle.lines.proofs.feed.Statement.{statement}
 use Rattle.lines.proofs.feed.Tie as tie

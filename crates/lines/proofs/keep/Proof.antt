@@ -1,9 +1,9 @@
 -- `lines::keep` meets its contract.
 use Rattle.lines.specs.Laws.{kept-part, kept-all, bytes-part, bytes-all}
-use Rattle.base.specs.Write.{over, over-copy, over-lent}
+use Rattle.base.specs.Write.{over-copy, over-lent}
 use lib.Seq.{length-take-le}
-use lib.ListN.{length, take, length-take, length-drop}
-use mathlib.Core.Path.{_≡_, sym, ap, _∙_}
+use lib.ListN.{length-take, length-drop}
+use mathlib.Core.Path.{sym, _∙_}
 use native.Mathlib.Omega.{arith}
 use borrow.Author.Needs.{needs}
 use Rattle.lines.proofs.keep.Statement.{statement}

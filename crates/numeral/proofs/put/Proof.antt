@@ -2,10 +2,9 @@
 use Rattle.numeral.specs.Decimal.{decimalText}
 use Rattle.text.specs.Put.{putOf, putEnd}
 use lib.Seq.{take-all}
-use lib.ListN.{length, take, drop, length-drop}
-use Prim.Native.Nat.{ℕ, _-_}
+use lib.ListN.{take, drop, length-drop}
+use Prim.Native.Nat.{_-_}
 use mathlib.Core.Path.{_≡_, ap, _∙_}
-use mathlib.Core.List.{List}
 use native.Mathlib.Omega.{arith}
 use borrow.Author.Needs.{needs}
 use Rattle.numeral.proofs.put.Statement.{statement}

@@ -3,9 +3,9 @@ use borrow.Author.Tests.{not-true, not-false}
 use borrow.Author.Needs.{needs}
 use Rattle.numeral.specs.Laws.{number-none, number-some, number-other, number-next, number-past, number-end}
 use Rattle.numeral.specs.Decimal.{numberFrom, numberOf}
-use lib.ListN.{length, drop, getD}
-use Prim.Native.Nat.{_≤_, _-_, _*_, _+_, _<_}
-use mathlib.Core.Path.{_≡_, refl, sym, _∙_}
+use lib.ListN.{length, drop}
+use Prim.Native.Nat.{_≤_, _-_}
+use mathlib.Core.Path.{_≡_, sym, _∙_}
 use native.Mathlib.Omega.{arith}
 use Rattle.numeral.proofs.read.Statement.{statement}
 use Rattle.numeral.proofs.read.Tie as tie

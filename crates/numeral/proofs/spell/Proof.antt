@@ -1,9 +1,9 @@
 -- `numeral::spell` meets its contract. The invariant: the text is what is left of it in front of what is written.
 use Rattle.numeral.specs.Laws.{digits-last, digits-next}
 use Rattle.numeral.specs.Decimal.{digitsOnto, decimalText}
-use lib.ListN.{length, drop, set, length-set, drop-of-length-le}
-use Prim.Native.Nat.{_≤_, _-_, _*_, _+_, _<_}
-use mathlib.Core.Path.{_≡_, refl, sym, _∙_}
+use lib.ListN.{length, drop, length-set, drop-of-length-le}
+use Prim.Native.Nat.{_≤_, _-_, _+_}
+use mathlib.Core.Path.{_≡_, sym, _∙_}
 use native.Mathlib.Omega.{arith}
 use Rattle.numeral.proofs.spell.Statement.{statement}
 use Rattle.numeral.proofs.spell.Tie as tie

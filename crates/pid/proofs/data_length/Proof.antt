@@ -6,8 +6,7 @@ use Prim.Native.Nat.{ℕ, _<_}
 use lib.Dec.{eqb}
 use lib.ListN.{getD, length}
 use borrow.Author.Needs.{needs}
-use borrow.Author.Tests.{eq-eqb, ne-eqb, eqb-true}
-use native.Mathlib.Omega.{arith}
+use borrow.Author.Tests.{ne-eqb, eqb-true}
 use Rattle.base.specs.Choice.{pick, cases, false-true}
 use Rattle.base.specs.Table.{every, at}
 use Rattle.pid.specs.Lengths.{dataLengthOf, lookup, j1979}

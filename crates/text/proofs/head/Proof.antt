@@ -1,8 +1,7 @@
 -- `text::head` meets its contract.
 use Rattle.text.specs.Cut.{headOf, place-le}
 use lib.Seq.{length-take-le}
-use mathlib.Core.Path.{_≡_, refl, sym, _∙_}
-use native.Mathlib.Omega.{arith}
+use mathlib.Core.Path.{sym}
 use borrow.Author.Needs.{needs}
 use Rattle.text.proofs.head.Statement.{statement}
 use Rattle.text.proofs.head.Tie as tie

@@ -1,9 +1,9 @@
 use Prim.Native.Nat.{_+_}
 use lib.ListN.{length}
 use Rattle.text.specs.Put.{putOf, putEnd, put-full, end-full}
-use Rattle.base.specs.Write.{over, over-copy, over-lent}
+use Rattle.base.specs.Write.{over-copy, over-lent}
 use borrow.Author.Tests.{le-leb}
-use mathlib.Core.Path.{_≡_, refl, sym, _∙_}
+use mathlib.Core.Path.{sym, _∙_}
 use native.Mathlib.Omega.{arith}
 use borrow.Author.Needs.{needs}
 use Rattle.text.proofs.put.Statement.{statement}

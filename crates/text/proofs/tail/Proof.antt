@@ -3,7 +3,7 @@ use Rattle.text.specs.Cut.{tailOf, place-le}
 use lib.Seq.{take-all, take-nil}
 use lib.ListN.{length, drop, length-drop, drop-of-length-le}
 use Prim.Native.Nat.{_+_, _-_}
-use mathlib.Core.Path.{_≡_, refl, sym, _∙_}
+use mathlib.Core.Path.{sym}
 use native.Mathlib.Omega.{arith}
 use borrow.Author.Needs.{needs}
 use Rattle.text.proofs.tail.Statement.{statement}

@@ -3,7 +3,6 @@ use Rattle.text.specs.Cut.{Sought, sought-here, sought-next, sought-end}
 use borrow.Author.Tests.{eq-eqb, ne-eqb}
 use lib.ListN.{length}
 use Prim.Native.Nat.{_≤_, _-_}
-use mathlib.Core.Path.{_≡_}
 use native.Mathlib.Omega.{arith}
 use Rattle.text.proofs.until.Statement.{statement}
 use Rattle.text.proofs.until.Tie as tie

@@ -3,7 +3,7 @@ use Rattle.transcript.specs.Lines.{keptOf}
 use native.Mathlib.Omega.{arith}
 use lib.Seq.{take-all}
 use lib.ListN.{length, length-map, length-take}
-use mathlib.Core.Path.{_≡_, refl, sym, ap, _∙_}
+use mathlib.Core.Path.{_≡_, sym, ap, _∙_}
 use borrow.Author.Needs.{needs}
 use Rattle.transcript.proofs.class_of.Statement.{statement}
 use Rattle.transcript.proofs.class_of.Tie as tie

@@ -1,9 +1,9 @@
 use borrow.Author.Needs.{needs}
 use Rattle.transcript.specs.Laws.{Filled, filled-none, filled-room, filled-same, filled-next}
-use Rattle.transcript.specs.Lines.{fedOf, usable, partText, partLine, stepLine, stepText, steppedOf}
-use mathlib.Core.Path.{_≡_, refl, sym, ap, _∙_}
+use Rattle.transcript.specs.Lines.{fedOf, usable, steppedOf}
+use mathlib.Core.Path.{_≡_}
 use lib.Seq.{length-take-le}
-use lib.ListN.{length, length-take}
+use lib.ListN.{length}
 use Prim.Native.Nat.{_≤_, _-_, _/_, min}
 use native.Mathlib.Omega.{arith}
 use Rattle.transcript.proofs.feed.Statement.{statement}

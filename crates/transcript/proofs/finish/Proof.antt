@@ -1,7 +1,7 @@
 -- `transcript::finish` meets its contract: a line is empty exactly when nothing of it is kept.
 use Rattle.transcript.specs.Lines.{keptOf, lastText, textOf, tailText}
 use borrow.Author.Tests.{ne-eqb}
-use mathlib.Core.Path.{_≡_, refl, sym, ap, _∙_}
+use mathlib.Core.Path.{_≡_, ap, _∙_}
 use native.Mathlib.Omega.{arith}
 use lib.ListN.{length, length-map, length-take}
 use borrow.Author.Needs.{needs}

@@ -1,6 +1,6 @@
 use Rattle.transcript.specs.Lines.{textOf}
-use Rattle.base.specs.Write.{over, over-copy, over-lent}
-use mathlib.Core.Path.{_≡_, refl, sym, ap, _∙_}
+use Rattle.base.specs.Write.{over-copy, over-lent}
+use mathlib.Core.Path.{_≡_, _∙_}
 use native.Mathlib.Omega.{arith}
 use lib.ListN.{length, length-map, length-take, length-drop}
 use borrow.Author.Needs.{needs}

@@ -1,7 +1,7 @@
-use Rattle.transcript.specs.Lines.{stepText, stepLine, steppedOf, tailText, startLine}
-use Rattle.base.specs.Write.{over, over-one}
+use Rattle.transcript.specs.Lines.{stepText, stepLine, steppedOf, tailText}
+use Rattle.base.specs.Write.{over-one}
 use borrow.Author.Tests.{eq-eqb, ne-eqb}
-use mathlib.Core.Path.{_≡_, refl, sym, ap, _∙_}
+use mathlib.Core.Path.{sym, ap, _∙_}
 use native.Mathlib.Omega.{arith}
 use borrow.Author.Needs.{needs}
 use Rattle.transcript.proofs.step.Statement.{statement}

@@ -1,4 +1,4 @@
-use mathlib.Core.Path.{refl, sym, ap}
+use mathlib.Core.Path.{sym, ap}
 use Rattle.transcript.specs.Lines.{textOf, tailText, className, numberText}
 use native.Mathlib.Omega.{arith}
 use borrow.Author.Needs.{needs}

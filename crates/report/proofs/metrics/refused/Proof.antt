@@ -3,10 +3,6 @@ use Rattle.report.specs.Metrics.{refusedOf}
 use borrow.Author.Needs.{needs}
 use Rattle.report.proofs.metrics.refused.Statement.{statement}
 use Rattle.report.proofs.metrics.refused.Tie as tie
-use Rattle.report.proofs.metrics.refused.Reads as reads
-use Rattle.report.proofs.metrics.refused.Lts as lts
-use Rattle.report.proofs.metrics.full.Reads as full-reads
-use Rattle.report.proofs.metrics.overlong.Reads as overlong-reads
 
 -- src/metrics.rt:73:8
 overlong-requires : tie.Need-overlong-requires
