@@ -2,7 +2,6 @@
 use mathlib.Core.Bool.{Bool, true, _&&_}
 use mathlib.Core.Path.{_≡_}
 use Prim.Native.Nat.{ℕ, _+_, _-_, _%_, _≤_}
-use native.Mathlib.Omega.{arith}
 use lib.Dec.{leb, ltb}
 use borrow.Author.Tests.{leb-true}
 use Rattle.base.specs.Choice.{pick, cases, false-true}
@@ -30,18 +29,3 @@ module _ (low b high : ℕ) where
   pub between-low : between low b high ≡ true → low ≤ b
   unfolding between
   between-low e = cases _ (leb low b) (λ t. leb-true low b t) (λ t. false-true (rw t at e))
-
-  pub between-high : between low b high ≡ true → b ≤ high
-  unfolding between
-  between-high e = cases _ (leb low b) (λ t. leb-true b high (rw t at e)) (λ t. false-true (rw t at e))
-
-pub hexValue-le : (b : ℕ) → hexValue b ≤ 16
-unfolding hexValue
-hexValue-le b =
-    cases _ (between 48 b 57)
-    (λ e. rw e (omega (arith, between-high 48 b 57 e)))
-    (λ e. rw e (cases _ (between 65 b 70)
-    (λ f. rw f (omega (arith, between-high 65 b 70 f)))
-    (λ f. rw f (cases _ (between 97 b 102)
-    (λ g. rw g (omega (arith, between-high 97 b 102 g)))
-    (λ g. rw g (omega arith))))))

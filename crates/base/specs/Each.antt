@@ -24,12 +24,6 @@ module _ {A : Type 0} (f : A → A) where
   each-at (suc n) [] d = refl
   each-at (suc n) (x ∷ xs) d = each-at n xs d
 
-  pub each-length : (n : ℕ) (xs : List A) → length (eachOf n f xs) ≡ length xs
-  unfolding eachOf
-  each-length zero xs = refl
-  each-length (suc n) [] = refl
-  each-length (suc n) (x ∷ xs) = ap suc (each-length n xs)
-
   each-more : (n : ℕ) (xs : List A) (d : A) → n < length xs → set (eachOf n f xs) n (f (getD xs n d)) ≡ eachOf (suc n) f xs
   unfolding eachOf
   each-more n [] d h = let z : ⊥ = omega arith in absurd z

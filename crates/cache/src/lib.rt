@@ -1,5 +1,4 @@
 // Asking the client cache (the Rust's answer_obd, and get_cached_value up to where it blocks).
-use clients::Client;
 use command::Command;
 use desk::Desk;
 use reply::RangeReply;

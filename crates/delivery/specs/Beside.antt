@@ -1,4 +1,4 @@
--- The desk of an answer in two parts: the store of replies, and what a response changes beside it.
+-- An answer in two parts: the desk, for its store of replies, and what a response changes beside the store.
 use mathlib.Core.Bool.{Bool}
 use mathlib.Core.List.{List, map}
 use mathlib.Core.Path.{_≡_}

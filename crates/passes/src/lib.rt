@@ -120,8 +120,8 @@ fn unwanted(wish: Wish) -> bool
     }
 }
 
-// Whether a pass is sure to leave a PID's entry as it is. Nearly all entries are no PID's, and storing one costs more than
-// this test.
+// Whether a pass is sure to leave a PID's entry as it is. Most PIDs are not in the table, and storing an entry costs more
+// than this test.
 fn rests(pass: Pass, terms: Terms, pid: u8, info: PidInfo) -> bool
     ensures { λ r. ⌜ r ≡ restsOf pass terms pid info ⌝ }
 {

@@ -2,7 +2,7 @@
 use mathlib.Core.List.{List}
 use mathlib.Core.Path.{_≡_}
 use Prim.Native.Nat.{ℕ, _+_, _<_, _≤_}
-use native.Mathlib.Nat.{mod-lt, mod-eq-of-lt}
+use native.Mathlib.Nat.{mod-lt}
 use native.Mathlib.Numerals.{add-one}
 use native.Mathlib.Omega.{arith}
 use lib.Dec.{ltb}
@@ -35,10 +35,6 @@ entry-at l i h = getD-take (sizeOf (l .len)) (l .pids) i 0 h
 pub wrap-lt : (i n : ℕ) → 0 < n → wrap i n < n
 unfolding wrap
 wrap-lt i n h = rw (ne-eqb n 0 (λ e. omega arith)) (mod-lt i h)
-
-pub wrap-small : (i n : ℕ) → i < n → wrap i n ≡ i
-unfolding wrap
-wrap-small i n h = rw (ne-eqb n 0 (λ e. omega arith), mod-eq-of-lt h)
 
 -- A search from the front: what is left of it at place i.
 abbrev pub Sought : List ℕ → ℕ → ℕ → Type 0

@@ -32,7 +32,7 @@ pub struct PidInfo {
     pub priority: PidPriority,
     // wanted by a profile: neither demoted nor removed
     pub pinned: bool,
-    // request_count, since the last maintenance; before the times, so that no bytes between the fields are lost
+    // request_count, since the last maintenance; in front of the times it saves eight bytes of padding
     pub count: u32,
     // last_waiter_time
     pub waiter: LastTime,

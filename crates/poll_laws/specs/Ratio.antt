@@ -70,10 +70,6 @@ more-least : (r ratio : ℕ) → ratio ≤ 4294967295 → ratio ≤ r + 1 → ra
 unfolding moreOf
 more-least r ratio h k = cases _ (ltb r 4294967295) (λ e. rw e k) (λ e. let a = ltb-false r 4294967295 e in rw e (omega arith))
 
-more-most : (r : ℕ) → r ≤ moreOf r
-unfolding moreOf
-more-most r = cases _ (ltb r 4294967295) (λ e. rw e (omega arith)) (λ e. rw e (omega arith))
-
 more-below : (r ratio : ℕ) → ratio ≤ 4294967295 → moreOf r < ratio → moreOf r ≡ r + 1
 unfolding moreOf
 more-below r ratio h k = cases _ (ltb r 4294967295) (λ e. rw e) (λ e. let a = ltb-false r 4294967295 e in let b = rw e at k in omega arith)

@@ -16,6 +16,10 @@ blanks n = replicate n noProfile
 unfoldable pub countOf : ℕ → ℕ
 countOf n = pick (leb n 16) n 17
 
--- The records as they were lent, the first 16 of them, and no profile in the places behind them.
+-- How many records are read: all, but none of a longer list, which its count alone has refused.
+unfoldable pub keptOf : ℕ → ℕ
+keptOf n = pick (leb n 16) n 0
+
+-- Those records as they were lent, and no profile in the places behind them.
 unfoldable pub copiedOf : List Profile → Profiles
-copiedOf ps = record { list = take 16 ps ++ blanks (16 - length ps); count = countOf (length ps) }
+copiedOf ps = record { list = take (keptOf (length ps)) ps ++ blanks (16 - keptOf (length ps)); count = countOf (length ps) }

@@ -2,12 +2,12 @@
 use mathlib.Core.Bool.{true}
 use mathlib.Core.Path.{_≡_, refl, sym, _∙_, ap}
 use mathlib.Core.List.{List, [], _∷_, _++_}
-use Prim.Native.Nat.{ℕ, suc, _+_, _-_, _<_, _≤_, min}
+use Prim.Native.Nat.{ℕ, suc, _+_, _-_, _<_, _≤_}
 use native.Mathlib.Omega.{arith}
 use native.Mathlib.Numerals.{add-one}
 use lib.Dec.{leb}
 use lib.ListN.{length, take, set, getD, length-take}
-use lib.Seq.{take-all, take-length, take-suc, take-append-seam, set-at, append-snoc}
+use lib.Seq.{take-length, take-suc, take-append-seam, set-at, append-snoc}
 use borrow.Author.Tests.{leb-true, leb-false, le-leb, lt-leb}
 use Rattle.base.specs.Choice.{cases}
 use Rattle.config.specs.Blank.{noProfile}
@@ -15,7 +15,7 @@ use Rattle.config.specs.InForce.{inForce}
 use Rattle.config.specs.declared.Profile.{Profile}
 use Rattle.config.specs.declared.Profiles.{Profiles}
 use Rattle.profile_check.specs.Check.{badProfiles}
-use Rattle.profile_list.specs.Copied.{copiedOf, countOf, blanks}
+use Rattle.profile_list.specs.Copied.{copiedOf, countOf, keptOf, blanks}
 
 -- The array once i records are copied, and the count with it.
 unfoldable pub heldOf : List Profile → ℕ → List Profile
@@ -43,23 +43,25 @@ pub part-start : (ps : List Profile) → record { list = blanks 16; count = coun
 unfolding heldOf
 part-start ps = refl
 
-first-16 : (ps : List Profile) → take (min (length ps) 16) ps ≡ take 16 ps
-first-16 ps =
-    cases _ (leb (length ps) 16)
-    (λ e. let h : length ps ≤ 16 = leb-true (length ps) 16 e in
-    let all : min (length ps) 16 ≡ length ps = omega arith in
-    ap (λ (m : ℕ). take m ps) all ∙ take-length ps ∙ sym (take-all 16 ps h))
-    (λ e. let h : 16 < length ps = leb-false (length ps) 16 e in
-    let some : min (length ps) 16 ≡ 16 = omega arith in
-    ap (λ (m : ℕ). take m ps) some)
-
 -- All that go in.
-pub part-end : (ps : List Profile) → partOf ps (min (length ps) 16) ≡ copiedOf ps
+pub part-end : (ps : List Profile) → partOf ps (keptOf (length ps)) ≡ copiedOf ps
 unfolding heldOf copiedOf
-part-end ps =
-    let left : 16 - min (length ps) 16 ≡ 16 - length ps = omega arith in
-    let lists = ap (λ (l : List Profile). l ++ blanks (16 - min (length ps) 16)) (first-16 ps) ∙ ap (λ (m : ℕ). take 16 ps ++ blanks m) left in
-    ap (λ (l : List Profile). record { list = l; count = countOf (length ps) }) lists
+part-end ps = refl
+
+pub kept-whole : (n : ℕ) → n ≤ 16 → keptOf n ≡ n
+unfolding keptOf
+kept-whole n h = rw (le-leb n 16 h)
+
+pub kept-none : (n : ℕ) → 16 < n → keptOf n ≡ 0
+unfolding keptOf
+kept-none n h = rw (lt-leb n 16 h)
+
+-- No more than there are, and than there is room for.
+pub kept-within : (n : ℕ) → (keptOf n ≤ n) × (keptOf n ≤ 16)
+kept-within n =
+    cases _ (leb n 16)
+    (λ e. let h = leb-true n 16 e in rw (kept-whole n h) (omega arith, h))
+    (λ e. rw (kept-none n (leb-false n 16 e)) (omega arith, omega arith))
 
 -- The count of a list that the array takes whole, and of a longer one.
 pub count-whole : (n : ℕ) → n ≤ 16 → countOf n ≡ n
@@ -74,9 +76,11 @@ count-over n h = rw (lt-leb n 16 h)
 pub all-in-force : (ps : List Profile) → length ps ≤ 16 → inForce (copiedOf ps) ≡ ps
 unfolding inForce copiedOf
 all-in-force ps h =
-    ap (λ (m : ℕ). take m (take 16 ps ++ blanks (16 - length ps))) (count-whole (length ps) h)
-    ∙ ap (λ (l : List Profile). take (length ps) (l ++ blanks (16 - length ps))) (take-all 16 ps h)
-    ∙ take-append-seam ps (blanks (16 - length ps))
+    let n = length ps in
+    ap (λ (m : ℕ). take m (take (keptOf n) ps ++ blanks (16 - keptOf n))) (count-whole n h)
+    ∙ ap (λ (m : ℕ). take n (take m ps ++ blanks (16 - m))) (kept-whole n h)
+    ∙ ap (λ (l : List Profile). take n (l ++ blanks (16 - n))) (take-length ps)
+    ∙ take-append-seam ps (blanks (16 - n))
 
 -- Refusal 2: "over 16 profiles".
 pub longer-refused : (ps : List Profile) → 16 < length ps → badProfiles (copiedOf ps) ≡ true

@@ -1,8 +1,8 @@
 // The profiles come in as a lent list of records, and go into the array that the box holds.
 ghost use mathlib.Core.Path.{_≡_};
-ghost use Prim.Native.Nat.{_<_, min};
+ghost use Prim.Native.Nat.{_<_};
 ghost use lib.ListN.{set};
-ghost use Rattle.profile_list.specs.Copied.{copiedOf, countOf, blanks};
+ghost use Rattle.profile_list.specs.Copied.{copiedOf, countOf, keptOf, blanks};
 use config::Profile;
 use config::Profiles;
 
@@ -21,12 +21,12 @@ fn blank(n: usize) -> Profiles
     none
 }
 
-// How many records of a list of n are copied.
+// How many records of a list of n are copied: of one that is too long none is read.
 fn kept(n: usize) -> usize
-    ensures { λ r. ⌜ r ≡ min n 16 ⌝ }
+    ensures { λ r. ⌜ r ≡ keptOf n ⌝ }
 {
     if MAX_PROFILES < n {
-        return MAX_PROFILES;
+        return 0;
     }
     n
 }
@@ -39,7 +39,7 @@ fn put(mut into: Profiles, i: usize, profile: Profile) -> Profiles
     into
 }
 
-// The records as they stand in the lent list, at most 16 of them.
+// The records as they stand in the lent list, if there are no more than 16.
 pub fn copied(profiles: &[Profile]) -> Profiles
     ensures { λ r. ⌜ r ≡ copiedOf (now (profiles .entry)) ⌝ }
 {

@@ -333,6 +333,7 @@ fn answer_part(
             Task::Lend(lent) => {
                 last = lend(last.state, lent, notes.brought, area);
                 let answer = last.answer;
+                // like a tick, neither of the two brings a response
                 notes = tell(notes, Call::Tick, answer, last.details, b"", out);
             }
             Task::Call(asked) => {

@@ -6,7 +6,7 @@ use lib.Dec.{leb}
 use lib.ListN.{length}
 use borrow.Author.Tests.{leb-true, le-leb, lt-leb}
 use Rattle.base.specs.Choice.{pick, cases}
-use Rattle.base.specs.Write.{over, over-length}
+use Rattle.base.specs.Write.{over}
 
 -- The text s written from the place at, where it has room; else the memory as it was.
 unfoldable pub putOf : List ℕ → ℕ → List ℕ → List ℕ
@@ -17,13 +17,6 @@ unfoldable pub putEnd : List ℕ → ℕ → List ℕ → ℕ
 putEnd d at s = pick (leb (at + length s) (length d)) (at + length s) at
 
 module _ (d : List ℕ) (at : ℕ) (s : List ℕ) where
-  pub put-length : length (putOf d at s) ≡ length d
-  unfolding putOf
-  put-length =
-      cases _ (leb (at + length s) (length d))
-      (λ e. rw e (over-length d at s (leb-true _ _ e)))
-      (λ e. rw e)
-
   -- A place within the memory stays within it.
   pub put-within : at ≤ length d → putEnd d at s ≤ length d
   unfolding putEnd

@@ -1,8 +1,5 @@
 // How a client's wait ends: collect and give up (the Rust's get_cached_value from where it blocks).
-use clients::Client;
-use clients::Wait;
 use desk::Desk;
-use reply::Reply;
 ghost use mathlib.Core.Path.{_≡_};
 ghost use lib.ListN.{length};
 ghost use Prim.Native.Nat.{_-_};

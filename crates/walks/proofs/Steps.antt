@@ -39,7 +39,7 @@ module _ {M : Type 1} {𝓤 : URA M} {H : Heap 𝓤} {A : Atoms 𝓤} {K : Type 
       answered t z tokens T (λ r. sep 𝓤 (fact 𝓤 (φ r)) (fact 𝓤 (ψ r))) last w e
       (λ r. use1 W (raw (fact 𝓤 (φ r)) ⊛ raw (fact 𝓤 (ψ r))) (id⊢ 𝓤 _) $ split t $ heard t (φ r) (λ p. heard t (ψ r) (k r p)))
 
--- Two clauses of a contract are shown, or three, and what stands before them is left.
+-- Two clauses of a contract are shown, or three or four, and what stands before them is left.
 module _ {M : Type 1} {𝓤 : URA M} {H : Heap 𝓤} {A : Atoms 𝓤} {K : Type 0} {W : Given 𝓤 H A} {Γ : List (Item 𝓤)} {P : SProp 𝓤} where
   pub says2 : K → {α β : Type 0} → α → β → Step K W Γ (prop P) Γ (prop (sep 𝓤 P (sep 𝓤 (fact 𝓤 α) (fact 𝓤 β))))
   says2 t {α} {β} x y = step (λ s. record {
@@ -50,4 +50,11 @@ module _ {M : Type 1} {𝓤 : URA M} {H : Heap 𝓤} {A : Atoms 𝓤} {K : Type 
   says3 t {α} {β} {γ} x y z = step (λ s. record {
     prf = via 𝓤 P (s .prf) (qed W (raw P ∷ []) ∵ use0 W (raw (fact 𝓤 γ)) (factI 𝓤 γ (emp 𝓤) z) $ use0 W (raw (fact 𝓤 β)) (factI 𝓤 β (emp 𝓤) y) $
         use0 W (raw (fact 𝓤 α)) (factI 𝓤 α (emp 𝓤) x) $ move ! (3 ∷ []) $ done !);
+  })
+
+  pub says4 : K → {α β γ δ : Type 0} → α → β → γ → δ
+      → Step K W Γ (prop P) Γ (prop (sep 𝓤 P (sep 𝓤 (fact 𝓤 α) (sep 𝓤 (fact 𝓤 β) (sep 𝓤 (fact 𝓤 γ) (fact 𝓤 δ))))))
+  says4 t {α} {β} {γ} {δ} x y z w = step (λ s. record {
+    prf = via 𝓤 P (s .prf) (qed W (raw P ∷ []) ∵ use0 W (raw (fact 𝓤 δ)) (factI 𝓤 δ (emp 𝓤) w) $ use0 W (raw (fact 𝓤 γ)) (factI 𝓤 γ (emp 𝓤) z) $
+        use0 W (raw (fact 𝓤 β)) (factI 𝓤 β (emp 𝓤) y) $ use0 W (raw (fact 𝓤 α)) (factI 𝓤 α (emp 𝓤) x) $ move ! (4 ∷ []) $ done !);
   })

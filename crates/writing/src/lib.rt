@@ -1,7 +1,6 @@
 // Texts written into lent memory one behind the other, as far as there is room: what is written is always the
 // start of the whole, and all of it where the memory is long enough.
 ghost use mathlib.Core.List.{[], _∷_};
-ghost use mathlib.Core.Path.{_≡_};
 ghost use Rattle.numeral.specs.Decimal.{decimalText};
 ghost use Rattle.writing.specs.Fill.{Wrote};
 

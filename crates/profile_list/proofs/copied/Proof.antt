@@ -4,7 +4,7 @@
 use mathlib.Core.Path.{_≡_, refl, sym, _∙_, ap}
 use mathlib.Core.Bool.{Bool, true, false}
 use mathlib.Core.WellFounded.{WellFounded, InvImage·wf}
-use Prim.Native.Nat.{ℕ, _+_, _-_, _<_, _≤_, min}
+use Prim.Native.Nat.{ℕ, _+_, _-_, _<_, _≤_}
 use native.Mathlib.Omega.{arith}
 use borrow.Author.Tests.{lt-ltb, le-ltb, ltb-true, ltb-false}
 use mathlib.Core.List.{[], _∷_, List}
@@ -58,8 +58,8 @@ use Rattle.config.proofs.Profile.Laws as R′
 use Rattle.config.proofs.Profiles as P
 use Rattle.config.proofs.Profiles.Laws as P′
 use Rattle.walks.proofs.Steps.{told}
-use Rattle.profile_list.specs.Copied.{copiedOf, countOf, blanks}
-use Rattle.profile_list.specs.Laws.{partOf, part-start, part-next, part-end}
+use Rattle.profile_list.specs.Copied.{copiedOf, countOf, keptOf, blanks}
+use Rattle.profile_list.specs.Laws.{partOf, part-start, part-next, part-end, kept-within}
 use Rattle.profile_list.proofs.kept as kept
 use Rattle.profile_list.proofs.kept.Symbol as kept-def
 use Rattle.profile_list.proofs.kept.Symbol.{name as #kept}
@@ -129,7 +129,7 @@ module _ {M : Type 1} (𝓤 : URA M) (H : Heap 𝓤) (A : Atoms 𝓤) (W : Given
 
   -- how many are copied, the array once i are, and the record at i
   abbrev end : ℕ
-  end = min n 16
+  end = keptOf n
 
   abbrev part : ℕ → Profiles
   part i = partOf ps i
@@ -215,7 +215,7 @@ module _ {M : Type 1} (𝓤 : URA M) (H : Heap 𝓤) (A : Atoms 𝓤) (W : Given
         assigns ! (bin ! (load ! (from ! (stop !)) (look ! 8 refl)) (load ! (from ! (stop !)) (look ! 12 refl)) tt) (from ! (stop !)) (init ! 6 refl (tt, tt)) $
         rewrite ! 6 (λ (t : Bool). ‵ (fat fullShare tyBool l₆ 0 (vbool t))) (lt-ltb (i .0) end less) refl $ stays ! (load ! (from ! (stop !)) (look ! 6 refl)) $
         -- a record has 12 bytes
-        assigns ! (bin ! (load ! (from ! (stop !)) (look ! 8 refl)) (lit ! tt) (record { fits = omega arith })) (from ! (stop !)) (init ! 4 refl (tt, record { fits = omega arith })) $
+        assigns ! (bin ! (load ! (from ! (stop !)) (look ! 8 refl)) (lit ! tt) (record { fits = omega (arith, small) })) (from ! (stop !)) (init ! 4 refl (tt, record { fits = omega (arith, small) })) $
         assigns ! (bin ! (load ! (from ! (fld ! refl (stop !))) (look-in ! 16 (sub ! 0 refl (whole !)))) (load ! (from ! (stop !)) (look ! 4 refl)) tt) (from ! (stop !)) (init ! 2 refl (tt, tt)) $
         rewrite ! 2 (λ (p : ℕ). ‵ (fat fullShare tyPtr l₈ 0 (vptr b p))) (sym (place-is 12 o (i .0))) refl $ move ! (20 ∷ []) $
         elem-out ! R.the-row (Is R.the-row) (shows 𝓤 H A R.the-row) (SL.vals R.the-type R′.the-laws) (SL.tells R.the-type R′.the-laws) q′ ps (i .0) noProfile b o within (λ g.
@@ -224,7 +224,7 @@ module _ {M : Type 1} (𝓤 : URA M) (H : Heap 𝓤) (A : Atoms 𝓤) (W : Given
         (init ! 3 refl (SL.lawful R.the-type R′.the-laws 𝓤 H A W .typed (one (i .0)) _ g .0)) $
         elem-back ! R.the-row q′ ps (i .0) noProfile (profileVal (one (i .0)) ∷ []) b o within $
         nothing ! $ owned ! R.the-row (Is R.the-row) (SL.makes R.the-type R′.the-plain 𝓤 H A) (one (i .0)) _ g $ fjoin ! $
-        owned ! usize (Is usize) (uint-makes 𝓤 H A W w64) (i .0) _ (refl, omega arith) $ fjoin ! $ move ! (23 ∷ 0 ∷ []) $ fjoin ! $ nothing ! $
+        owned ! usize (Is usize) (uint-makes 𝓤 H A W w64) (i .0) _ (refl, omega (arith, small)) $ fjoin ! $ move ! (23 ∷ 0 ∷ []) $ fjoin ! $ nothing ! $
         use2 W (raw (Put 𝓤 H A at-mem run .pre (to-put (i .0)))) (asked (i .0) small) $
         -- [what `put` asks; the records; _9; …; .. _0; …; the open borrow]
         calls-at ! (fmOf 𝓤 H (W .laws) 𝓣) (Put 𝓤 H A at-mem run) known (to-put (i .0))
@@ -235,16 +235,16 @@ module _ {M : Type 1} (𝓤 : URA M) (H : Heap 𝓤) (A : Atoms 𝓤) (W : Given
         land ! (from ! (stop !)) (store ! 12 refl (SL.lawful P.the-type P′.the-laws 𝓤 H A W .typed (part (i .0 + 1)) _ is .0)) $
         rewrite ! 12 (λ (us : List Val). ‵ (fat fullShare P′.mir l₄ 0 (only us))) (SL.tells P.the-type P′.the-laws (part (i .0 + 1)) _ is) refl $
         rewrite ! 0 (λ (us : List Val). ‵ (P.the-row .own (part (i .0 + 1)) us)) (SL.tells P.the-type P′.the-laws (part (i .0 + 1)) _ is) refl $
-        assigns-last ! (bin ! (load ! (from ! (stop !)) (look ! 10 refl)) (lit ! tt) (record { fits = omega arith })) (from ! (stop !)) (store ! 10 refl (tt, record { fits = omega arith })) $
+        assigns-last ! (bin ! (load ! (from ! (stop !)) (look ! 10 refl)) (lit ! tt) (record { fits = omega (arith, small) })) (from ! (stop !)) (store ! 10 refl (tt, record { fits = omega (arith, small) })) $
         forget ! 2 refl $ forget ! 4 refl $ forget ! 6 refl $ forget ! 8 refl $
         move ! (2 ∷ 3 ∷ 4 ∷ 5 ∷ 6 ∷ 7 ∷ 8 ∷ 9 ∷ 10 ∷ 11 ∷ 12 ∷ 13 ∷ 14 ∷ 15 ∷ 16 ∷ 17 ∷ 18 ∷ 19 ∷ 20 ∷ 21 ∷ 1 ∷ 22 ∷ 0 ∷ []) $
         again ! Further At i (i .0 + 1, omega arith) (omega arith)))))
       where
         within : i .0 < n
-        within = omega arith
+        within = omega (arith, kept-within n .0)
 
         small : i .0 < 16
-        small = omega arith
+        small = omega (arith, kept-within n .1)
 
     -- The turn that leaves the loop, and the rest of the body.
     leaves : (i : Place) → end ≤ i .0 → Sq W (At i) (runs C Λ En body.turn-1 (anyQ (Afterwards i)))
