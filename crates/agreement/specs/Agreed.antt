@@ -23,8 +23,10 @@ use Rattle.passes.specs.Laws.{speedAt}
 use Rattle.pid_list.specs.Rules.{entries}
 use Rattle.pid_list.specs.declared.PidList.{PidList}
 use Rattle.pid_table.specs.declared.PidInfo.{PidInfo}
+use Rattle.poll_laws.specs.Keeps.{Kept}
 use Rattle.poll_laws.specs.Lists.{Both, applied-sound, applied-agree}
 use Rattle.poller.specs.Calls.{appliedOf}
+use Rattle.poller.specs.declared.Poller.{Poller}
 
 -- The lists say speeds of which the messages that wait, taken in order, make what the table says.
 pub record Agreed (l : ControlLine) (table : List PidInfo) (fast slow : PidList) : Type 0 where
@@ -82,21 +84,21 @@ module _ (l : ControlLine) (table : List PidInfo) (fast slow : PidList) (g : Agr
         small = rw (t .1) (named-rest 256 m ms n);
       }
 
-  -- Other indexes: the same entries.
-  pub same-agreed : (f s : PidList) → Both f s → entries f ≡ entries fast → entries s ≡ entries slow → Agreed l table f s
-  same-agreed f s b e k = record {
-    line-sound = g .line-sound;
-    table-whole = g .table-whole;
-    lists-sound = b;
-    speeds = g .speeds;
-    listed = λ q. let x = g .listed q in record { in-fast = rw e (x .in-fast); in-slow = rw k (x .in-slow) };
-    coming = g .coming;
-    small = g .small;
-  }
-
   -- Nothing waits any more: the lists are what the table says.
   pub agreed-settled : waiting l ≡ [] → Agree (entries fast) (entries slow) (λ q. speedAt table q)
   unfolding afterAll
   agreed-settled e q =
       let c : g .speeds q ≡ speedAt table q = (let c = g .coming q in rw e at c) in
       rw (← c) (g .listed q)
+
+-- `next` moves the lists' indexes alone.
+pub kept-agreed : {l : ControlLine} {table : List PidInfo} {p r : Poller} → Kept p r → Agreed l table (p .fast) (p .slow) → Agreed l table (r .fast) (r .slow)
+kept-agreed k g = record {
+  line-sound = g .line-sound;
+  table-whole = g .table-whole;
+  lists-sound = record { fast-sound = k .fast-sound (g .lists-sound .fast-sound); slow-sound = k .slow-sound (g .lists-sound .slow-sound) };
+  speeds = g .speeds;
+  listed = λ q. let x = g .listed q in record { in-fast = rw (k .fast-entries) (x .in-fast); in-slow = rw (k .slow-entries) (x .in-slow) };
+  coming = g .coming;
+  small = g .small;
+}

@@ -17,16 +17,17 @@ use Rattle.config.specs.declared.Settings.{Settings}
 use Rattle.control.specs.Speed.{Speed, Agree}
 use Rattle.control_line.specs.Ring.{waiting}
 use Rattle.delivery.specs.Rules.{pidAt, valueAt}
-use Rattle.manager.specs.Calls.{startOf as startManager, tickOf, changedOf, waitingCallOf, consumedCallOf}
+use Rattle.manager.specs.Calls.{startOf as startManager, handleOf}
+use Rattle.manager.specs.declared.Event.{Event as ManagerEvent}
+use Rattle.manager.specs.declared.Event.the-variants as event
 use Rattle.manager.specs.declared.Manager.{Manager}
 use Rattle.passes.specs.Laws.{speedAt}
-use Rattle.passes.specs.declared.Terms.{Terms}
 use Rattle.pid_list.specs.Rules.{entries}
 use Rattle.rounds.specs.declared.Outcome.{Outcome}
 use Rattle.reply.specs.declared.Response.{Response}
 use Rattle.triggers.specs.Rules.{switchOf}
-use Rattle.obd2.specs.Calls.{startOf}
-use Rattle.obd2.specs.History.{Call, register, leave, ask, collect, giveUp, response, profilePidsChanged, waiting as waits, consumed, tick, settings, takeControl, connect, connectFailed, reconnectCheck, begin, next, result, Calls, step, run, Event, happened, acceptedBy, accepted}
+use Rattle.obd2.specs.Call.{Call, manager, cache, settings, takeControl, link, round, Register, Leave, Respond, Changed, Waiting, Consumed, Tick, next, result, Calls}
+use Rattle.obd2.specs.History.{startOf, step, run, Event, happened, acceptedBy, accepted}
 use Rattle.obd2.specs.Refusals.{roundOpen, resultDue}
 use Rattle.obd2.specs.declared.Answer.{Answer}
 use Rattle.obd2.specs.declared.State.{State}
@@ -37,18 +38,9 @@ pub record Reading : Type 0 where
   pub profiles : Profiles
   pub settings : Settings
 
-abbrev pub termsAt : Reading → ℕ → Terms
-termsAt r t = record { profiles = r .profiles; settings = r .settings; now = t }
-
-abbrev pub withManager : Reading → Manager → Reading
-withManager r m = record { manager = m; profiles = r .profiles; settings = r .settings }
-
-abbrev pub withProfiles : Reading → Profiles → Reading
-withProfiles r ps = record { manager = r .manager; profiles = ps; settings = r .settings }
-
--- A call without an event for the manager: maintenance, if it is due.
-abbrev pub ticked : Reading → ℕ → Reading
-ticked r t = withManager r (tickOf (r .manager) (termsAt r t) .manager)
+-- The manager told an event; then it does maintenance, if that is due. Both go by the profiles after the call.
+abbrev pub handled : Reading → ℕ → Profiles → ManagerEvent → Reading
+handled r t ps e = record { manager = handleOf (r .manager) (record { profiles = ps; settings = r .settings; now = t }) e .manager; profiles = ps; settings = r .settings }
 
 -- The profiles after the values of the k PIDs of a response from place i on.
 unfoldable pub switched : ℕ → ℕ → Response → Profiles → Profiles
@@ -57,24 +49,18 @@ switched (suc k) i r ps = switched k (suc i) r (switchOf (pidAt r i) (valueAt r 
 
 -- An accepted call, by the rules under "PID table (manager)".
 unfoldable pub readCall : Reading → Call → Reading
-readCall r (register t) = ticked r t
-readCall r (leave t c) = ticked r t
-readCall r (ask t c cmd area) = r
-readCall r (collect t c area) = r
-readCall r (giveUp t c) = r
-readCall r (response t x) = ticked (withProfiles r (switched (x .count) 0 x (r .profiles))) t
-readCall r (profilePidsChanged t ps) = withManager (withProfiles r ps) (changedOf (r .manager) (termsAt (withProfiles r ps) t) .manager)
-readCall r (waits t p) = withManager r (waitingCallOf (r .manager) (termsAt r t) p .manager)
-readCall r (consumed t p w) = withManager r (consumedCallOf (r .manager) (termsAt r t) p w .manager)
-readCall r (tick t) = ticked r t
+readCall r (manager t Register) = handled r t (r .profiles) event.Nothing
+readCall r (manager t (Leave c)) = handled r t (r .profiles) event.Nothing
+readCall r (manager t (Respond x)) = handled r t (switched (x .count) 0 x (r .profiles)) event.Nothing
+readCall r (manager t (Changed ps)) = handled r t ps event.ProfilePidsChanged
+readCall r (manager t (Waiting p)) = handled r t (r .profiles) (event.Waiting p)
+readCall r (manager t (Consumed p w)) = handled r t (r .profiles) (event.Consumed p w)
+readCall r (manager t Tick) = handled r t (r .profiles) event.Nothing
+readCall r (cache t c) = r
 readCall r (settings t st) = record { manager = r .manager; profiles = r .profiles; settings = st }
 readCall r (takeControl t) = r
-readCall r (connect t x) = r
-readCall r (connectFailed t) = r
-readCall r (reconnectCheck t) = r
-readCall r (begin t) = r
-readCall r (next t) = r
-readCall r (result t o) = r
+readCall r (link t c) = r
+readCall r (round t c) = r
 
 unfoldable pub read : Reading → List Event → Reading
 read r [] = r
@@ -92,30 +78,17 @@ abbrev pub tracked : Reading → ℕ → Speed
 tracked r q = speedAt (r .manager .table) q
 
 -- Calls that a round goes on by.
-unfoldable pub OfRound : List Call → Type 0
-OfRound [] = Unit {0}
-OfRound (next t ∷ cs) = OfRound cs
-OfRound (result t o ∷ cs) = OfRound cs
-OfRound (register t ∷ cs) = ⊥
-OfRound (leave t c ∷ cs) = ⊥
-OfRound (ask t c cmd area ∷ cs) = ⊥
-OfRound (collect t c area ∷ cs) = ⊥
-OfRound (giveUp t c ∷ cs) = ⊥
-OfRound (response t r ∷ cs) = ⊥
-OfRound (profilePidsChanged t ps ∷ cs) = ⊥
-OfRound (waits t p ∷ cs) = ⊥
-OfRound (consumed t p w ∷ cs) = ⊥
-OfRound (tick t ∷ cs) = ⊥
-OfRound (settings t st ∷ cs) = ⊥
-OfRound (takeControl t ∷ cs) = ⊥
-OfRound (connect t x ∷ cs) = ⊥
-OfRound (connectFailed t ∷ cs) = ⊥
-OfRound (reconnectCheck t ∷ cs) = ⊥
-OfRound (begin t ∷ cs) = ⊥
+pub data OfRound : List Call → Type 0 where
+  none : OfRound []
+  asks : {t : ℕ} {cs : List Call} → OfRound cs → OfRound (next t ∷ cs)
+  tells : {t : ℕ} {o : Outcome} {cs : List Call} → OfRound cs → OfRound (result t o ∷ cs)
 
 -- The waiting control messages taken, one call each, at the box's own time.
+abbrev pub taking : State → List Call
+taking s = replicate (length (waiting (s .line))) (takeControl (s .time))
+
 abbrev pub takeAll : State → State
-takeAll s = run s (replicate (length (waiting (s .line))) (takeControl (s .time)))
+takeAll s = run s (taking s)
 
 -- A start's arguments and a list of calls, as a caller can make them.
 module _ (t : ℕ) (st : Settings) (ps : Profiles) (cs : List Call) where

@@ -1,9 +1,6 @@
 pub mod Claim
 pub mod Agreed
-pub mod Steps
-pub mod Start
-pub mod Times
-pub mod Ends
-pub mod Takes
+pub mod Good
+pub mod Settles
 pub mod Reads
 pub mod Theorem

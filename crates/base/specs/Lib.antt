@@ -1,7 +1,9 @@
 pub mod Both
 pub mod Choice
+pub mod Count
 pub mod Each
 pub mod Refusal
+pub mod Search
 pub mod Table
 pub mod Times
 pub mod Write

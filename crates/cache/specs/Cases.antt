@@ -18,7 +18,7 @@ use Rattle.reply.specs.Rules.{emptyReply, noRange, sizeOf, filledOf}
 use Rattle.reply.specs.Laws.{size-empty}
 use Rattle.reply.specs.declared.Reply.{Reply}
 use Rattle.reply.specs.declared.RangeReply.{RangeReply}
-use Rattle.cache.specs.Rules.{numberIn, rangeCount, rangeOf, rangeStep, commandStep, stepOf, refusedAsk, toldOf, settled, filledBy, otherRefusal, otherOf, otherArea, answerOf, handedOf, afterAsk, busy, askRefusal, askOf, askArea}
+use Rattle.cache.specs.Rules.{rangeCount, rangeOf, rangeStep, commandStep, stepOf, refusedAsk, toldOf, settled, filledBy, otherRefusal, otherOf, otherArea, answerOf, handedOf, afterAsk, busy, askRefusal, askOf, askArea}
 use Rattle.cache.specs.declared.Step.{Step}
 use Rattle.cache.specs.declared.Step.the-variants.{Disconnected, Empty, Unclear, Stored, ToCache}
 use Rattle.cache.specs.declared.Answer.{Answer}
@@ -164,20 +164,11 @@ module _ (d : Desk) (t c p : ℕ) (rs : List RangeReply) where
   unfolding handedOf
   handed-waiting e = rw e
 
--- The number in an answer is the refusal's.
-number-told : (d : Desk) (c : ℕ) (s : Step) → numberIn (answerOf d c s) ≡ 0
-unfolding answerOf
-number-told d c Disconnected = refl
-number-told d c Empty = refl
-number-told d c Unclear = refl
-number-told d c (Stored n) = refl
-number-told d c (ToCache p) = cases _ (fresh d c p) (λ e. rw e) (λ e. rw e)
-
 module _ (d : Desk) (t c : ℕ) (rs : List RangeReply) (s : Step) (n : ℕ) where
-  pub ask-number : numberIn (askOf d t c rs s n .answer) ≡ askRefusal d c rs s n
+  pub ask-refusal : askOf d t c rs s n .refusal ≡ askRefusal d c rs s n
   unfolding askOf settled
-  ask-number = cases _ (eqb (askRefusal d c rs s n) 0)
-      (λ e. rw e (number-told d c s ∙ sym (eqb-true (askRefusal d c rs s n) 0 e)))
+  ask-refusal = cases _ (eqb (askRefusal d c rs s n) 0)
+      (λ e. rw (e, eqb-true (askRefusal d c rs s n) 0 e))
       (λ e. rw e)
 
   -- An ask that does not go to the cache.
@@ -195,10 +186,10 @@ module _ (r : Asked) (out : List ℕ) (d : Desk) (t c : ℕ) (rs : List RangeRep
   abbrev Promised : Type 0
   Promised =
       (r ≡ askOf d t c rs s (length area))
-      × ((out ≡ askArea d c rs s area) × (numberIn (r .answer) ≡ askRefusal d c rs s (length area)))
+      × ((out ≡ askArea d c rs s area) × (r .refusal ≡ askRefusal d c rs s (length area)))
 
   promised : r ≡ askOf d t c rs s (length area) → out ≡ askArea d c rs s area → Promised
-  promised e f = (e, (f, ap (λ (a : Asked). numberIn (a .answer)) e ∙ ask-number d t c rs s (length area)))
+  promised e f = (e, (f, ap (λ (a : Asked). a .refusal) e ∙ ask-refusal d t c rs s (length area)))
 
   pub promised-other : (a : Answer) (y : Reply) → busy d c u ≡ false → afterAsk d t c u ≡ d → a ≡ answerOf d c u → y ≡ handedOf d c rs u
       → r ≡ otherOf d c a y (length area) → out ≡ otherArea d c y area → Promised

@@ -22,25 +22,13 @@ use Rattle.desk.specs.Laws.{Sound, After, client-number, put-after}
 use Rattle.desk.specs.declared.Desk.{Desk}
 use Rattle.reply.specs.Laws.{filled-long}
 use Rattle.reply.specs.Rules.{sizeOf, joinedOf}
-use Rattle.reply.specs.declared.Reply.{Reply}
 use Rattle.reply.specs.declared.RangeReply.{RangeReply}
-use Rattle.cache.specs.Rules.{handsOut, toldOf, settled, answerOf, handedOf, afterAsk, busy, askRefusal, askOf, askArea, rangeOf, rangeStep, commandStep, stepOf}
-use Rattle.cache.specs.Cases.{ask-refused, ask-told, handed-reading}
+use Rattle.cache.specs.Rules.{handsOut, settled, answerOf, handedOf, afterAsk, busy, askRefusal, askOf, askArea, rangeOf, rangeStep, commandStep, stepOf, waitAfter}
+use Rattle.cache.specs.Cases.{ask-refused, ask-told}
 use Rattle.cache.specs.declared.Step.{Step}
 use Rattle.cache.specs.declared.Step.the-variants.{Disconnected, Empty, Unclear, Stored, ToCache}
 use Rattle.cache.specs.declared.Answer.{Answer}
-use Rattle.cache.specs.declared.Answer.the-variants.{Refused, Unable, NoData, Unknown, Range, Reading, Waiting}
-use Rattle.cache.specs.declared.Asked.{Asked}
-
--- The wait of a client that is given the answer at a time: a new one begins if the answer names Waiting.
-abbrev pub waitAfter : ℕ → Answer → Wait → Wait
-waitAfter t (Waiting p) w = record { waiting = true; pid = p; since = t }
-waitAfter t (Reading p) w = w
-waitAfter t (Refused n) w = w
-waitAfter t Unable w = w
-waitAfter t NoData w = w
-waitAfter t Unknown w = w
-waitAfter t Range w = w
+use Rattle.cache.specs.declared.Answer.the-variants.{Unable, NoData, Unknown, Range, Reading, Waiting}
 
 -- The desk after an answer a to client c at time t, in terms of the desk before.
 abbrev pub AfterAnswer : Desk → ℕ → ℕ → Answer → Desk → Type 0
@@ -130,62 +118,29 @@ module _ (d : Desk) (t c : ℕ) (rs : List RangeReply) (st : Step) (n : ℕ) whe
       not-false (registered d c)
       (not-here 8 (not (registered d c)) ((9, busy d c st) ∷ (14, ltb n (sizeOf (handedOf d c rs st))) ∷ []) (λ q. omega arith) e)
 
-  -- ASK: what is handed out is fresh no longer, for this client and this PID only; a wait begins where the answer names Waiting.
-  pub ask-law : Sound d → AfterAnswer d t c (askOf d t c rs st n .answer) (askOf d t c rs st n .desk)
-  unfolding askOf settled
-  ask-law s = cases _ (eqb (askRefusal d c rs st n) 0)
-      (λ e. rw e (told-after d s t c (ask-registered (eqb-true (askRefusal d c rs st n) 0 e)) st))
-      (λ e. rw e (quiet d s t c (Refused (askRefusal d c rs st n)) (λ p. refl) (λ w. refl)))
+  -- ASK, accepted: what is handed out is fresh no longer, for this client and this PID only; a wait begins where the answer names Waiting.
+  pub ask-law : Sound d → askRefusal d c rs st n ≡ 0 → AfterAnswer d t c (answerOf d c st) (afterAsk d t c st)
+  ask-law s e = told-after d s t c (ask-registered e) st
 
   pub ask-unchanged : (askRefusal d c rs st n ≡ 0 → ⊥) → askOf d t c rs st n .desk ≡ d
   unfolding askOf settled
   ask-unchanged h = rw (ne-eqb (askRefusal d c rs st n) 0 h)
 
--- An accepted ask for a PID hands out a reading exactly if one is fresh; else the client waits.
-pub ask-cache : (d : Desk) (t c : ℕ) (rs : List RangeReply) (p n : ℕ) → askRefusal d c rs (ToCache p) n ≡ 0
-    → askOf d t c rs (ToCache p) n .answer ≡ pick (fresh d c p) (Reading p) (Waiting p)
-unfolding askOf settled answerOf
-ask-cache d t c rs p n e = rw e
-
--- A reading that is handed out: by an accepted ask for that PID, of a fresh reply, the newest one.
-pub record Handed (d : Desk) (c : ℕ) (rs : List RangeReply) (st : Step) (n : ℕ) (a : Asked) (p : ℕ) : Type 0 where
-  pub accepted : askRefusal d c rs st n ≡ 0
+-- A reading that is handed out: by an ask for that PID, of a fresh reply, the newest one.
+pub record Handed (d : Desk) (c : ℕ) (rs : List RangeReply) (st : Step) (p : ℕ) : Type 0 where
   pub to-cache : st ≡ ToCache p
   pub was-fresh : fresh d c p ≡ true
-  pub lines-of : a .lines ≡ stored d p .lines
-  pub lengths-of : a .lengths ≡ stored d p .lengths
   pub reply-of : handedOf d c rs st ≡ stored d p
 
-told-hands : (d : Desk) (c p : ℕ) (st : Step) → handsOut (answerOf d c st) p ≡ true → (st ≡ ToCache p) × (fresh d c p ≡ true)
-unfolding answerOf
-told-hands d c p Disconnected h = never false h refl
-told-hands d c p Empty h = never false h refl
-told-hands d c p Unclear h = never false h refl
-told-hands d c p (Stored n) h = never false h refl
-told-hands d c p (ToCache q) h = cases _ (fresh d c q)
-    (λ e. let f = eqb-true q p (rw e at h) in (ap ToCache f, rw (← f) e))
+pub ask-hands : (d : Desk) (c : ℕ) (rs : List RangeReply) (st : Step) (p : ℕ) → handsOut (answerOf d c st) p ≡ true → Handed d c rs st p
+unfolding answerOf handedOf
+ask-hands d c rs Disconnected p h = never false h refl
+ask-hands d c rs Empty p h = never false h refl
+ask-hands d c rs Unclear p h = never false h refl
+ask-hands d c rs (Stored n) p h = never false h refl
+ask-hands d c rs (ToCache q) p h = cases _ (fresh d c q)
+    (λ e. let f = eqb-true q p (rw e at h) in rw (← f) record { to-cache = refl; was-fresh = e; reply-of = rw e })
     (λ e. never false (rw e at h) refl)
-
-module _ (d : Desk) (t c : ℕ) (rs : List RangeReply) (st : Step) (n p : ℕ) where
-  told-handed : askRefusal d c rs st n ≡ 0 → handsOut (answerOf d c st) p ≡ true
-      → Handed d c rs st n (toldOf (afterAsk d t c st) (answerOf d c st) (handedOf d c rs st)) p
-  told-handed e h =
-      let k = told-hands d c p st h in
-      let y = ap (handedOf d c rs) (k .0) ∙ handed-reading d t c p rs (k .1) in
-      record {
-        accepted = e;
-        to-cache = k .0;
-        was-fresh = k .1;
-        lines-of = ap (λ (r : Reply). r .lines) y;
-        lengths-of = ap (λ (r : Reply). r .lengths) y;
-        reply-of = y;
-      }
-
-  pub ask-hands : handsOut (askOf d t c rs st n .answer) p ≡ true → Handed d c rs st n (askOf d t c rs st n) p
-  unfolding askOf settled
-  ask-hands h = cases _ (eqb (askRefusal d c rs st n) 0)
-      (λ e. rw e (told-handed (eqb-true (askRefusal d c rs st n) 0 e) (rw e at h)))
-      (λ e. never false (rw e at h) refl)
 
 -- The lent area: a refused ask leaves every byte, an accepted one fills the start with the reply, which fits.
 module _ (d : Desk) (t c : ℕ) (rs : List RangeReply) (st : Step) (area : List ℕ) where

@@ -1,12 +1,13 @@
 -- Ask (document 01, "Commands (desk)" and "Client cache"). Collect and give up are `waits`'.
-use mathlib.Core.Bool.{Bool, false, not}
+use mathlib.Core.Bool.{Bool, true, false, not}
 use mathlib.Core.List.{List, [], _∷_}
 use Prim.Native.Nat.{ℕ}
 use lib.Dec.{ltb, eqb}
 use lib.ListN.{length, getD, replicate}
 use Rattle.base.specs.Choice.{pick}
-use Rattle.base.specs.Refusal.{firstOf}
+use Rattle.base.specs.Refusal.{Rows, firstOf}
 use Rattle.clients.specs.Rules.{takenOf, waitingOf}
+use Rattle.clients.specs.declared.Wait.{Wait}
 use Rattle.command.specs.Classify.{commandOf}
 use Rattle.command.specs.declared.Command.{Command}
 use Rattle.command.specs.declared.Command.the-variants as command
@@ -18,28 +19,26 @@ use Rattle.reply.specs.declared.RangeReply.{RangeReply}
 use Rattle.cache.specs.declared.Step.{Step}
 use Rattle.cache.specs.declared.Step.the-variants.{Disconnected, Empty, Unclear, Stored, ToCache}
 use Rattle.cache.specs.declared.Answer.{Answer}
-use Rattle.cache.specs.declared.Answer.the-variants.{Refused, Unable, NoData, Unknown, Range, Reading, Waiting}
+use Rattle.cache.specs.declared.Answer.the-variants.{Unable, NoData, Unknown, Range, Reading, Waiting}
 use Rattle.cache.specs.declared.Asked.{Asked}
 
--- What an answer says, in document 01's terms: the refusal's number, 0 where the call is accepted.
-abbrev pub numberIn : Answer → ℕ
-numberIn (Refused n) = n
-numberIn Unable = 0
-numberIn NoData = 0
-numberIn Unknown = 0
-numberIn Range = 0
-numberIn (Reading p) = 0
-numberIn (Waiting p) = 0
-
--- Whether it hands out a reading of the PID, which names Consumed.
+-- Whether an answer hands out a reading of the PID, which names Consumed.
 abbrev pub handsOut : Answer → ℕ → Bool
 handsOut (Reading p) q = eqb p q
-handsOut (Refused n) q = false
 handsOut Unable q = false
 handsOut NoData q = false
 handsOut Unknown q = false
 handsOut Range q = false
 handsOut (Waiting p) q = false
+
+-- The wait of a client that is given the answer at a time: a new one begins if the answer names Waiting.
+abbrev pub waitAfter : ℕ → Answer → Wait → Wait
+waitAfter t (Waiting p) w = record { waiting = true; pid = p; since = t }
+waitAfter t (Reading p) w = w
+waitAfter t Unable w = w
+waitAfter t NoData w = w
+waitAfter t Unknown w = w
+waitAfter t Range w = w
 
 -- How many ranges there are. Past the last one, a range is absent.
 abbrev pub rangeCount : ℕ
@@ -60,11 +59,12 @@ commandStep rs command.Unknown = Unclear
 unfoldable pub stepOf : Bool → List RangeReply → List ℕ → Step
 stepOf connected rs cmd = pick connected (commandStep rs (commandOf cmd)) Disconnected
 
+-- A refused ask: its number. The answer beside it is a place holder.
 abbrev pub refusedAsk : ℕ → Desk → Asked
-refusedAsk n d = record { desk = d; answer = Refused n; lines = 0; lengths = replicate maxLines 0 }
+refusedAsk n d = record { desk = d; refusal = n; answer = Unable; lines = 0; lengths = replicate maxLines 0 }
 
 abbrev pub toldOf : Desk → Answer → Reply → Asked
-toldOf d a r = record { desk = d; answer = a; lines = r .lines; lengths = r .lengths }
+toldOf d a r = record { desk = d; refusal = 0; answer = a; lines = r .lines; lengths = r .lengths }
 
 -- What a call with refusal n answers, where an accepted one answers a; and what it leaves of a lent area, where an
 -- accepted one fills in a reply.
@@ -116,9 +116,11 @@ busy d c (Stored n) = false
 busy d c (ToCache p) = waitOf d c .waiting
 
 -- An ask with a lent area of n bytes.
+abbrev pub askRows : Desk → ℕ → List RangeReply → Step → ℕ → Rows
+askRows d c rs s n = (8, not (registered d c)) ∷ (9, busy d c s) ∷ (14, ltb n (sizeOf (handedOf d c rs s))) ∷ []
+
 unfoldable pub askRefusal : Desk → ℕ → List RangeReply → Step → ℕ → ℕ
-askRefusal d c rs s n =
-    firstOf ((8, not (registered d c)) ∷ (9, busy d c s) ∷ (14, ltb n (sizeOf (handedOf d c rs s))) ∷ [])
+askRefusal d c rs s n = firstOf (askRows d c rs s n)
 
 unfoldable pub askOf : Desk → ℕ → ℕ → List RangeReply → Step → ℕ → Asked
 askOf d t c rs s n =

@@ -7,7 +7,7 @@ ghost use mathlib.Core.Path.{_≡_};
 ghost use mathlib.Core.List.{[]};
 ghost use lib.ListN.{length};
 ghost use Rattle.cache.specs.declared.Step.the-variants.{ToCache};
-ghost use Rattle.cache.specs.Rules.{rangeOf, rangeStep, stepOf, refusedAsk, toldOf, otherOf, otherArea, numberIn, askOf, askArea, askRefusal};
+ghost use Rattle.cache.specs.Rules.{rangeOf, rangeStep, stepOf, refusedAsk, toldOf, otherOf, otherArea, askOf, askArea, askRefusal};
 
 // The range queries, 0100 to 01E0.
 const RANGES: usize = 8;
@@ -24,7 +24,6 @@ pub enum Step {
 
 // What an ask is answered. A reading names Consumed of its PID, without a wait, and a wait names Waiting.
 pub enum Answer {
-    Refused(u8),
     // UNABLE TO CONNECT
     Unable,
     // NO DATA
@@ -36,9 +35,11 @@ pub enum Answer {
     Waiting(u8),
 }
 
-// The lines' lengths of the reply that stands at the start of the lent area, none where the answer has no reply.
+// The refusal is document 01's number, 0 where the ask is accepted. The lines' lengths are of the reply that stands at
+// the start of the lent area, none where the answer has no reply.
 pub struct Asked {
     pub desk: Desk,
+    pub refusal: u8,
     pub answer: Answer,
     pub lines: u8,
     pub lengths: [u8; reply::MAX_LINES],
@@ -89,12 +90,14 @@ fn first_step(connected: bool, ranges: [RangeReply; RANGES], cmd: &[u8]) -> Step
     }
 }
 
+// The answer of a refused ask is a place holder that nobody reads.
 fn refuse(desk: Desk, number: u8) -> Asked
     ensures { λ r. ⌜ r ≡ refusedAsk number desk ⌝ }
 {
     Asked {
         desk: desk,
-        answer: Answer::Refused(number),
+        refusal: number,
+        answer: Answer::Unable,
         lines: 0,
         lengths: [0u8; reply::MAX_LINES],
     }
@@ -106,6 +109,7 @@ fn tell(desk: Desk, answer: Answer, out: Reply) -> Asked
     let lengths = out.lengths;
     Asked {
         desk: desk,
+        refusal: 0,
         answer: answer,
         lines: out.lines,
         lengths: lengths,
@@ -173,7 +177,7 @@ pub fn ask(
 ) -> Asked
     ensures { λ r. ⌜ r ≡ askOf desk time number ranges (stepOf connected ranges (now (cmd .entry))) (length (now (area .entry))) ⌝ }
     ensures { λ r. ⌜ now (area .exit) ≡ askArea desk number ranges (stepOf connected ranges (now (cmd .entry))) (now (area .entry)) ⌝ }
-    ensures { λ r. ⌜ numberIn (r .answer) ≡ askRefusal desk number ranges (stepOf connected ranges (now (cmd .entry))) (length (now (area .entry))) ⌝ }
+    ensures { λ r. ⌜ r .refusal ≡ askRefusal desk number ranges (stepOf connected ranges (now (cmd .entry))) (length (now (area .entry))) ⌝ }
 {
     let step = first_step(connected, ranges, cmd);
     let nothing = reply::empty();

@@ -2,40 +2,25 @@
 use mathlib.Core.Bool.{Bool, true, false, _&&_, _||_, not, or-false, or-true, and-true, and-false}
 use mathlib.Core.List.{List, [], _∷_, map}
 use mathlib.Core.Path.{_≡_, refl, ap, sym, _∙_}
-use Prim.Native.Nat.{ℕ, zero, suc, _+_, _<_, _≤_}
+use Prim.Native.Nat.{ℕ, zero, suc, _<_, _≤_}
 use native.Mathlib.Omega.{arith}
-use native.Mathlib.Numerals.{add-one}
 use lib.Dec.{eqb}
-use lib.ListN.{length, set, getD, drop, length-set, drop-of-length-le, replicate}
-use lib.Seq.{drop-cons, getD-set-same, getD-set-other}
+use lib.ListN.{length, set, getD, length-set, replicate}
+use lib.Seq.{getD-set-same, getD-set-other}
 use borrow.Author.Tests.{ltb-true, eqb-true, eqb-false, lt-ltb, le-ltb, eq-eqb, ne-eqb}
 use Rattle.base.specs.Both.{never}
 use Rattle.base.specs.Choice.{pick, cases}
+use Rattle.base.specs.Search.{Search, search-le}
 use Rattle.base.specs.Times.{times}
 use Rattle.clients.specs.Rules.{places, idle, nobody, newcomer, placeOf, markedOf, takenOf, waitingOf, idledOf, findOf, registeredOf, seatOf, numbersOf, freshIn}
 use Rattle.clients.specs.declared.Client.{Client}
 
--- A search from the front: what is left of it at place i.
-abbrev pub Sought : List Client → ℕ → ℕ → Type 0
-Sought xs c i = placeOf xs c ≡ i + placeOf (drop i xs) c
-
-module _ (xs : List Client) (c i : ℕ) where
-  pub sought-here : i < length xs → getD xs i nobody .number ≡ c → Sought xs c i → i ≡ placeOf xs c
-  unfolding placeOf
-  sought-here h e s = let a = rw (drop-cons xs i nobody, eq-eqb _ _ e) at s in omega arith
-
-  pub sought-next : i < length xs → (getD xs i nobody .number ≡ c → ⊥) → Sought xs c i → Sought xs c (i + 1)
-  unfolding placeOf
-  sought-next h e s = let a = rw (drop-cons xs i nobody, ne-eqb _ _ e) at s in rw (add-one i) (omega arith)
-
-  pub sought-end : length xs ≤ i → Sought xs c i → placeOf xs c ≡ i
-  unfolding placeOf
-  sought-end h s = let a = rw (drop-of-length-le xs h) at s in omega arith
+pub number-search : (c : ℕ) → Search (λ x. eqb (x .number) c) (λ xs. placeOf xs c)
+unfolding placeOf
+number-search c = record { none = refl; turn = λ x xs. refl }
 
 pub place-le : (xs : List Client) (c : ℕ) → placeOf xs c ≤ length xs
-unfolding placeOf
-place-le [] c = omega arith
-place-le (x ∷ xs) c = cases _ (eqb (x .number) c) (λ e. rw e (omega arith)) (λ e. rw e (omega (arith, place-le xs c)))
+place-le xs c = search-le (number-search c) xs
 
 -- What stands at a number's place is the client that is found.
 pub find-at : (xs : List Client) (c : ℕ) → getD xs (placeOf xs c) nobody ≡ findOf xs c

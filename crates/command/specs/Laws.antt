@@ -11,6 +11,7 @@ use lib.Seq.{drop-cons, take-all, getD-take, length-take-le}
 use borrow.Author.Tests.{le-leb, leb-true, leb-false}
 use Rattle.ascii.specs.Chars.{upper}
 use Rattle.base.specs.Choice.{cases}
+use Rattle.base.specs.Search.{Search}
 use Rattle.command.specs.Classify.{sameText, indexOf, rangeTexts, stripped, pidOf, commandOf}
 
 -- Two texts of different lengths differ.
@@ -42,22 +43,9 @@ module _ (xs ys : List ℕ) (i : ℕ) where
   unfolding sameText
   same-end h k = rw (drop-of-length-le xs h, drop-of-length-le ys k)
 
--- A search among the texts: what is left of it at place i.
-abbrev pub Sought : List (List ℕ) → List ℕ → ℕ → Type 0
-Sought ts cmd i = indexOf ts cmd ≡ i + indexOf (drop i ts) cmd
-
-module _ (ts : List (List ℕ)) (cmd : List ℕ) (i : ℕ) where
-  pub sought-here : i < length ts → sameText cmd (getD ts i []) ≡ true → Sought ts cmd i → i ≡ indexOf ts cmd
-  unfolding indexOf
-  sought-here h e s = let a = rw (drop-cons ts i [], e) at s in omega arith
-
-  pub sought-next : i < length ts → sameText cmd (getD ts i []) ≡ false → Sought ts cmd i → Sought ts cmd (i + 1)
-  unfolding indexOf
-  sought-next h e s = let a = rw (drop-cons ts i [], e) at s in rw add-one (omega arith)
-
-  pub sought-end : length ts ≤ i → Sought ts cmd i → i ≡ indexOf ts cmd
-  unfolding indexOf
-  sought-end h s = let a = rw (drop-of-length-le ts h) at s in omega arith
+pub text-search : (cmd : List ℕ) → Search (sameText cmd) (λ ts. indexOf ts cmd)
+unfolding indexOf
+text-search cmd = record { none = refl; turn = λ t ts. refl }
 
 -- A range command has four bytes, once stripped.
 index-long : (s : List ℕ) → (length s ≡ 4 → ⊥) → indexOf rangeTexts s ≡ 8

@@ -6,7 +6,7 @@ use lib.Dec.{ltb, leb, eqb}
 use lib.ListN.{set, getD, take, replicate}
 use Rattle.base.specs.Choice.{pick}
 use Rattle.base.specs.Each.{someOf}
-use Rattle.base.specs.Refusal.{firstOf}
+use Rattle.base.specs.Refusal.{Rows, firstOf}
 use Rattle.clients.specs.Rules.{markedOf}
 use Rattle.config.specs.declared.Profiles.{Profiles}
 use Rattle.desk.specs.declared.Desk.{Desk}
@@ -38,8 +38,11 @@ unfit r =
     ltb maxPids (r .count)
     || (not (risingFrom 0 (take (r .count) (r .pids))) || someOf over (take (r .count) (r .replies)))
 
+abbrev pub responseRows : Response → Rows
+responseRows r = (3, unfit r) ∷ []
+
 unfoldable pub responseRefusal : Response → ℕ
-responseRefusal r = firstOf ((3, unfit r) ∷ [])
+responseRefusal r = firstOf (responseRows r)
 
 -- The revs after a value v of the PID p.
 unfoldable pub revsAfter : ℕ → ℕ → Revs → Revs

@@ -5,7 +5,7 @@ use Prim.Native.Nat.{ℕ, _+_}
 use lib.Dec.{leb, eqb}
 use lib.ListN.{set, getD, replicate}
 use Rattle.base.specs.Choice.{pick}
-use Rattle.base.specs.Refusal.{firstOf}
+use Rattle.base.specs.Refusal.{Rows, firstOf}
 use Rattle.clients.specs.Rules.{places, idle, newcomer, placeOf, findOf, registeredOf, freshIn}
 use Rattle.clients.specs.declared.Wait.{Wait}
 use Rattle.clients.specs.declared.Client.{Client}
@@ -51,8 +51,11 @@ mostNumbers = 4294967294
 abbrev pub full : Desk → Bool
 full d = leb places (placeOf (d .clients) 0)
 
+abbrev pub registerRows : Desk → Rows
+registerRows d = (6, leb mostNumbers (d .given)) ∷ (7, full d) ∷ []
+
 unfoldable pub registerRefusal : Desk → ℕ
-registerRefusal d = firstOf ((6, leb mostNumbers (d .given)) ∷ (7, full d) ∷ [])
+registerRefusal d = firstOf (registerRows d)
 
 abbrev pub withGiven : Desk → ℕ → Desk
 withGiven d n = record { clients = d .clients; store = d .store; given = n; revs = d .revs }

@@ -1,5 +1,5 @@
-// The box's calls of the desk that also let the manager do maintenance: register, leave and response. Each tests its
-// refusals in the order of their numbers, so that the lowest is answered, and a refused call leaves the box as it was.
+// The box's calls of the desk that also let the manager do maintenance: register, leave and response. A refused call
+// leaves the box as it was. The time is not tested here: `dispatch::call` does that before, and is the box's door.
 mod leaving;
 mod registering;
 mod responding;

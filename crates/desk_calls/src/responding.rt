@@ -1,25 +1,18 @@
-use obd2::Answer;
+use manager::Event;
 use obd2::Answered;
+use obd2::Said;
 use obd2::State;
 use obd2::answers;
-use passes::Terms;
 use reply::Response;
 ghost use mathlib.Core.Path.{_≡_};
-ghost use Rattle.delivery.specs.Rules.{responseOf};
-ghost use Rattle.obd2.specs.Answers.{numberIn};
-ghost use Rattle.obd2.specs.Calls.{respondOf};
-ghost use Rattle.obd2.specs.Refusals.{responseRefusal};
-ghost use Rattle.desk_calls.specs.Numbers.{maintained};
+ghost use Rattle.obd2.specs.Call as call;
+ghost use Rattle.obd2.specs.History.{inTime};
 
 // A response of the dongle goes to every client. The profiles that its values switched off count no more in the
 // maintenance of the same call.
 pub fn response(mut state: State, time: u64, response: Response) -> Answered
-    ensures { λ r. ⌜ r ≡ respondOf state time response ⌝ }
-    ensures { λ r. ⌜ numberIn (r .answer) ≡ responseRefusal state time response (maintained state time (responseOf (state .desk) (state .profiles) response)) ⌝ }
+    ensures { λ r. ⌜ r ≡ inTime state (call.response time response) ⌝ }
 {
-    if answers::bad_time(state.time, time) {
-        return answers::refuse(state, 1);
-    }
     let desk = state.desk;
     let profiles = state.profiles;
     let delivered = delivery::response(desk, profiles, response);
@@ -27,25 +20,23 @@ pub fn response(mut state: State, time: u64, response: Response) -> Answered
         return answers::refuse(state, delivered.refusal);
     }
     let switched = delivered.profiles;
-    let settings = state.settings;
-    let terms = Terms {
-        profiles: switched,
-        settings: settings,
-        now: time,
-    };
     let manager = state.manager;
-    let managed = manager::tick(manager, terms);
-    if answers::crowded(state.line.count, managed.outbox.count) {
+    let line = state.line;
+    let settings = state.settings;
+    let sent = manager_calls::send(manager, line, switched, settings, time, Event::Nothing);
+    if sent.refused {
         return answers::refuse(state, 15);
     }
+    let kept = sent.manager;
+    let longer = sent.line;
+    state.manager = kept;
+    state.line = longer;
     let after = delivered.desk;
     state.desk = after;
     state.profiles = switched;
     let values = delivered.values;
     let notices = delivered.notices;
-    let report = managed.report;
+    let report = sent.report;
     let details = answers::delivering(values, notices, report);
-    let mut told = answers::told(state, managed, time, Answer::Done);
-    told.details = details;
-    told
+    answers::accept(state, time, Said::Done, details)
 }

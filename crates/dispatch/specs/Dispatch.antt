@@ -1,10 +1,16 @@
 -- A call as it is handed to the box, as a call of the histories that demand 3 speaks of.
-use mathlib.Core.Bool.{Bool, true, false}
-use mathlib.Core.List.{List}
+use mathlib.Core.Bool.{Bool, true, false, _&&_}
+use mathlib.Core.List.{List, []}
+use mathlib.Core.Path.{_≡_}
 use Prim.Native.Nat.{ℕ}
+use lib.Dec.{eqb}
 use Rattle.base.specs.Choice.{pick}
-use Rattle.obd2.specs.History as history
-use Rattle.obd2.specs.History.{lentAfter}
+use Rattle.obd2.specs.Answers.{numberIn, valuesIn, valuesOf}
+use Rattle.obd2.specs.Call as history
+use Rattle.obd2.specs.Done.{doneOf}
+use Rattle.obd2.specs.History.{lentBy}
+use Rattle.obd2.specs.Refusals.{refusalOf}
+use Rattle.obd2.specs.declared.Answer.{Answer}
 use Rattle.obd2.specs.declared.State.{State}
 use Rattle.obd2.specs.declared.call.Call.{Call}
 use Rattle.obd2.specs.declared.call.Call.the-variants.{Register, Leave, Ask, Collect, GiveUp, Response, ProfilePidsChanged, Waiting, Consumed, Tick, SetSettings, TakeControl, Connect, ConnectFailed, ReconnectCheck, Begin, Next, Result}
@@ -32,26 +38,26 @@ callOf t Next b cmd area = history.next t
 callOf t Result b cmd area = history.result t (b .outcome)
 
 -- Whether a call fills a lent area.
-unfoldable pub fills : Call → Bool
-fills Register = false
-fills (Leave c) = false
-fills (Ask c) = true
-fills (Collect c) = true
-fills (GiveUp c) = false
-fills Response = false
-fills ProfilePidsChanged = false
-fills (Waiting p) = false
-fills (Consumed p w) = false
-fills Tick = false
-fills (SetSettings st) = false
-fills TakeControl = false
-fills Connect = false
-fills ConnectFailed = false
-fills ReconnectCheck = false
-fills Begin = false
-fills Next = false
-fills Result = false
+unfoldable pub fills : history.Call → Bool
+fills (history.manager t c) = false
+fills (history.cache t (history.Ask c cmd area)) = true
+fills (history.cache t (history.Collect c area)) = true
+fills (history.cache t (history.GiveUp c)) = false
+fills (history.settings t st) = false
+fills (history.takeControl t) = false
+fills (history.link t c) = false
+fills (history.round t c) = false
 
--- The lent area after a call: what the histories say, and any other call leaves it as it was.
-unfoldable pub areaOf : State → ℕ → Call → Brought → List ℕ → List ℕ → List ℕ
-areaOf s t c b cmd area = pick (fills c) (lentAfter s (callOf t c b cmd area)) area
+-- The lent area after a call with refusal n: what the histories say of an accepted one that fills it; any other leaves
+-- it as it was.
+unfoldable pub areaBy : ℕ → State → history.Call → List ℕ → List ℕ
+areaBy n s c area = pick (fills c && eqb n 0) (lentBy n s c) area
+
+abbrev pub areaOf : State → ℕ → Call → Brought → List ℕ → List ℕ → List ℕ
+areaOf s t c b cmd area = let k = callOf t c b cmd area in areaBy (refusalOf s k) s k area
+
+-- What goes with every answer: the call is one that demand 3 speaks of, and the answer has document 01's number and values.
+pub record Promised (s : State) (c : history.Call) (a : Answer) : Type 0 where
+  pub fits : history.Fit c
+  pub number : numberIn a ≡ refusalOf s c
+  pub values : valuesIn a ≡ pick (eqb (refusalOf s c) 0) (valuesOf (doneOf s c .said)) []

@@ -6,17 +6,27 @@ use native.Mathlib.Omega.{arith}
 use lib.Dec.{eqb}
 use lib.ListN.{length, getD, take, length-append, length-take}
 use Rattle.base.specs.Choice.{cases}
+use Rattle.cache.specs.declared.Answer.{Answer as Asked}
+use Rattle.cache.specs.declared.Answer.the-variants as asked
 use Rattle.control.specs.declared.DongleMessage.{DongleMessage}
 use Rattle.control.specs.declared.DongleMessage.the-variants.{SetPidPriority, RemovePid}
+use Rattle.control_line.specs.declared.Taken.{Taken}
+use Rattle.control_line.specs.declared.Taken.the-variants.{Message, Nothing}
+use Rattle.link.specs.declared.Connecting.{Connecting}
+use Rattle.link.specs.declared.Connecting.the-variants.{Connected, Failed, Already}
 use Rattle.obd2.specs.declared.Answer.{Answer}
-use Rattle.obd2.specs.declared.Answer.the-variants as answers
+use Rattle.obd2.specs.declared.Answer.the-variants.{Refused, Accepted}
 use Rattle.obd2.specs.declared.Details.{Details}
+use Rattle.obd2.specs.declared.Said.{Said}
+use Rattle.obd2.specs.declared.Said.the-variants as said
 use Rattle.poller.specs.declared.Query.{Query}
 use Rattle.reply.specs.declared.Response.{Response}
+use Rattle.rounds.specs.declared.Step.{Step}
+use Rattle.rounds.specs.declared.Step.the-variants.{Ask, End}
 use Rattle.writing.specs.Number.{decimal-short}
 use Rattle.writing_pairs.specs.Short.{pid-length, bytes-short}
 use Rattle.writing_lists.specs.Short.{pids-short, numbers-short}
-use Rattle.history_said.specs.Texts.{heldOf, linesText, readingText, collectedText, rangeText, controlText, ecuText, queryText, markText, valueText, valuesFrom, doneText, saidText}
+use Rattle.history_said.specs.Texts.{heldOf, linesText, readingText, collectedText, rangeText, askedText, controlText, takenText, connectingText, checkText, ecuText, queryText, stepText, markText, valueText, valuesFrom, doneText, acceptedText, saidText}
 
 -- What the code holds: eight lengths, six PIDs of a query, 256 rates.
 pub record Sound (d : Details) : Type 0 where
@@ -47,6 +57,15 @@ module _ (lines : ℕ) (lengths area : List ℕ) (eight : length lengths ≤ 8) 
   collected-short : (p wait : ℕ) → length (collectedText p wait lines lengths area) ≤ 341
   unfolding collectedText
   collected-short p wait = simp length-append (omega (arith, reading-short p, decimal-short wait))
+
+  asked-short : (a : Asked) → length (askedText a lines lengths area) ≤ 320
+  unfolding askedText
+  asked-short asked.Unable = omega arith
+  asked-short asked.NoData = omega arith
+  asked-short asked.Unknown = omega arith
+  asked-short asked.Range = omega (arith, range-short)
+  asked-short (asked.Reading p) = reading-short p
+  asked-short (asked.Waiting p) = simp length-append (omega (arith, pid-length p))
 
 control-short : (m : DongleMessage) → length (controlText m) ≤ 9
 unfolding controlText
@@ -82,26 +101,42 @@ unfolding doneText
 done-short d v =
     simp length-append (omega (arith, values-short (min (v .count) 6) 0 (v .pids) (d .values) (d .notices)))
 
+taken-short : (m : Taken) → length (takenText m) ≤ 9
+unfolding takenText
+taken-short (Message m) = control-short m
+taken-short Nothing = omega arith
+
+connecting-short : (c : Connecting) → length (connectingText c) ≤ 9
+unfolding connectingText
+connecting-short Connected = omega arith
+connecting-short Failed = omega arith
+connecting-short Already = omega arith
+
+check-short : (b : Bool) → length (checkText b) ≤ 3
+unfolding checkText
+check-short true = omega arith
+check-short false = omega arith
+
+step-short : (s : Step) (q : Query) → length (q .pids) ≤ 6 → length (stepText s q) ≤ 46
+unfolding stepText
+step-short Ask q h = query-short q h
+step-short (End n) q h = simp length-append (omega (arith, decimal-short n))
+
 module _ (d : Details) (v : Response) (area : List ℕ) (s : Sound d) where
+  accepted-short : (a : Said) → length (acceptedText a d v area) ≤ 341
+  unfolding acceptedText
+  accepted-short said.Started = omega arith
+  accepted-short said.Done = omega (arith, done-short d v)
+  accepted-short (said.Client n) = simp length-append (omega (arith, decimal-short n))
+  accepted-short (said.Asked a) = omega (arith, asked-short (d .lines) (d .lengths) area (s .lengths-are) a)
+  accepted-short (said.Collected p wait) = collected-short (d .lines) (d .lengths) area (s .lengths-are) p wait
+  accepted-short said.GivenUp = omega arith
+  accepted-short (said.Taken m) = omega (arith, taken-short m)
+  accepted-short (said.Connecting c) = omega (arith, connecting-short c)
+  accepted-short (said.Check b) = omega (arith, check-short b)
+  accepted-short (said.Step x) = omega (arith, step-short x (d .query) (s .pids-are))
+
   pub said-short : (a : Answer) → length (saidText a d v area) ≤ 341
   unfolding saidText
-  said-short (answers.Refused n) = simp length-append (omega (arith, decimal-short n))
-  said-short answers.Started = omega arith
-  said-short (answers.Client n) = simp length-append (omega (arith, decimal-short n))
-  said-short answers.Done = omega (arith, done-short d v)
-  said-short answers.Unable = omega arith
-  said-short answers.NoData = omega arith
-  said-short answers.Unknown = omega arith
-  said-short answers.Range = omega (arith, range-short (d .lines) (d .lengths) area (s .lengths-are))
-  said-short (answers.Reading p) = omega (arith, reading-short (d .lines) (d .lengths) area (s .lengths-are) p)
-  said-short (answers.Collected p wait) = omega (arith, collected-short (d .lines) (d .lengths) area (s .lengths-are) p wait)
-  said-short (answers.Waiting p) = simp length-append (omega (arith, pid-length p))
-  said-short answers.Nothing = omega arith
-  said-short (answers.Control m) = omega (arith, control-short m)
-  said-short answers.Connected = omega arith
-  said-short answers.Failed = omega arith
-  said-short answers.Already = omega arith
-  said-short answers.Yes = omega arith
-  said-short answers.No = omega arith
-  said-short answers.Query = omega (arith, query-short (d .query) (s .pids-are))
-  said-short (answers.End n) = simp length-append (omega (arith, decimal-short n))
+  said-short (Refused n) = simp length-append (omega (arith, decimal-short n))
+  said-short (Accepted a) = accepted-short a

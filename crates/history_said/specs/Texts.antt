@@ -6,17 +6,27 @@ use Prim.Native.Nat.{ℕ, zero, suc, min}
 use lib.Dec.{eqb}
 use lib.ListN.{getD, take}
 use Rattle.base.specs.Choice.{pick}
+use Rattle.cache.specs.declared.Answer.{Answer as Asked}
+use Rattle.cache.specs.declared.Answer.the-variants as asked
 use Rattle.config.specs.declared.PidPriority.{PidPriority}
 use Rattle.config.specs.declared.PidPriority.the-variants.{Fast, Slow}
 use Rattle.control.specs.declared.DongleMessage.{DongleMessage}
 use Rattle.control.specs.declared.DongleMessage.the-variants.{SetPidPriority, RemovePid}
+use Rattle.control_line.specs.declared.Taken.{Taken}
+use Rattle.control_line.specs.declared.Taken.the-variants.{Message, Nothing}
+use Rattle.link.specs.declared.Connecting.{Connecting}
+use Rattle.link.specs.declared.Connecting.the-variants.{Connected, Failed, Already}
 use Rattle.numeral.specs.Decimal.{decimalText}
 use Rattle.obd2.specs.declared.Answer.{Answer}
-use Rattle.obd2.specs.declared.Answer.the-variants as answers
+use Rattle.obd2.specs.declared.Answer.the-variants.{Refused, Accepted}
 use Rattle.obd2.specs.declared.Details.{Details}
+use Rattle.obd2.specs.declared.Said.{Said}
+use Rattle.obd2.specs.declared.Said.the-variants as said
 use Rattle.poller.specs.declared.Query.{Query}
 use Rattle.reply.specs.Rules.{sumOf}
 use Rattle.reply.specs.declared.Response.{Response}
+use Rattle.rounds.specs.declared.Step.{Step}
+use Rattle.rounds.specs.declared.Step.the-variants.{Ask, End}
 use Rattle.writing_pairs.specs.Pairs.{pidText, bytesText}
 use Rattle.writing_lists.specs.Parted.{pidsText, numbersText}
 
@@ -73,25 +83,50 @@ valuesFrom i (suc n) ps vs bs = valueText (getD ps i 0) (getD vs i 0) (getD bs i
 unfoldable pub doneText : Details → Response → List ℕ
 doneText d v = (111 ∷ 107 ∷ []) ++ valuesFrom 0 (min (v .count) 6) (v .pids) (d .values) (d .notices)
 
+-- What an ask is answered.
+unfoldable pub askedText : Asked → ℕ → List ℕ → List ℕ → List ℕ
+askedText asked.Unable lines lengths area = 117 ∷ 110 ∷ 97 ∷ 98 ∷ 108 ∷ 101 ∷ []
+askedText asked.NoData lines lengths area = 110 ∷ 111 ∷ 100 ∷ 97 ∷ 116 ∷ 97 ∷ []
+askedText asked.Unknown lines lengths area = 117 ∷ 110 ∷ 107 ∷ 110 ∷ 111 ∷ 119 ∷ 110 ∷ []
+askedText asked.Range lines lengths area = rangeText lines lengths area
+askedText (asked.Reading p) lines lengths area = readingText p lines lengths area
+askedText (asked.Waiting p) lines lengths area = (119 ∷ 97 ∷ 105 ∷ 116 ∷ 105 ∷ 110 ∷ 103 ∷ 32 ∷ []) ++ pidText p
+
+-- What the poller takes off the control line.
+unfoldable pub takenText : Taken → List ℕ
+takenText (Message m) = controlText m
+takenText Nothing = 110 ∷ 111 ∷ 110 ∷ 101 ∷ []
+
+-- How connecting went.
+unfoldable pub connectingText : Connecting → List ℕ
+connectingText Connected = 99 ∷ 111 ∷ 110 ∷ 110 ∷ 101 ∷ 99 ∷ 116 ∷ 101 ∷ 100 ∷ []
+connectingText Failed = 102 ∷ 97 ∷ 105 ∷ 108 ∷ 101 ∷ 100 ∷ []
+connectingText Already = 97 ∷ 108 ∷ 114 ∷ 101 ∷ 97 ∷ 100 ∷ 121 ∷ []
+
+-- Whether a reconnect may be tried.
+unfoldable pub checkText : Bool → List ℕ
+checkText true = 121 ∷ 101 ∷ 115 ∷ []
+checkText false = 110 ∷ 111 ∷ []
+
+-- The query that is now due, or the round's end.
+unfoldable pub stepText : Step → Query → List ℕ
+stepText Ask q = queryText q
+stepText (End n) q = (101 ∷ 110 ∷ 100 ∷ 32 ∷ []) ++ decimalText n
+
+-- What an accepted call says, without its report.
+unfoldable pub acceptedText : Said → Details → Response → List ℕ → List ℕ
+acceptedText said.Started d v area = 115 ∷ 116 ∷ 97 ∷ 114 ∷ 116 ∷ 101 ∷ 100 ∷ []
+acceptedText said.Done d v area = doneText d v
+acceptedText (said.Client n) d v area = (99 ∷ 108 ∷ 105 ∷ 101 ∷ 110 ∷ 116 ∷ 32 ∷ []) ++ decimalText n
+acceptedText (said.Asked a) d v area = askedText a (d .lines) (d .lengths) area
+acceptedText (said.Collected p wait) d v area = collectedText p wait (d .lines) (d .lengths) area
+acceptedText said.GivenUp d v area = 110 ∷ 111 ∷ 100 ∷ 97 ∷ 116 ∷ 97 ∷ []
+acceptedText (said.Taken m) d v area = takenText m
+acceptedText (said.Connecting c) d v area = connectingText c
+acceptedText (said.Check b) d v area = checkText b
+acceptedText (said.Step s) d v area = stepText s (d .query)
+
 -- What a call answers, without its report.
 unfoldable pub saidText : Answer → Details → Response → List ℕ → List ℕ
-saidText (answers.Refused n) d v area = (114 ∷ 101 ∷ 102 ∷ 117 ∷ 115 ∷ 101 ∷ 100 ∷ 32 ∷ []) ++ decimalText n
-saidText answers.Started d v area = 115 ∷ 116 ∷ 97 ∷ 114 ∷ 116 ∷ 101 ∷ 100 ∷ []
-saidText (answers.Client n) d v area = (99 ∷ 108 ∷ 105 ∷ 101 ∷ 110 ∷ 116 ∷ 32 ∷ []) ++ decimalText n
-saidText answers.Done d v area = doneText d v
-saidText answers.Unable d v area = 117 ∷ 110 ∷ 97 ∷ 98 ∷ 108 ∷ 101 ∷ []
-saidText answers.NoData d v area = 110 ∷ 111 ∷ 100 ∷ 97 ∷ 116 ∷ 97 ∷ []
-saidText answers.Unknown d v area = 117 ∷ 110 ∷ 107 ∷ 110 ∷ 111 ∷ 119 ∷ 110 ∷ []
-saidText answers.Range d v area = rangeText (d .lines) (d .lengths) area
-saidText (answers.Reading p) d v area = readingText p (d .lines) (d .lengths) area
-saidText (answers.Collected p wait) d v area = collectedText p wait (d .lines) (d .lengths) area
-saidText (answers.Waiting p) d v area = (119 ∷ 97 ∷ 105 ∷ 116 ∷ 105 ∷ 110 ∷ 103 ∷ 32 ∷ []) ++ pidText p
-saidText answers.Nothing d v area = 110 ∷ 111 ∷ 110 ∷ 101 ∷ []
-saidText (answers.Control m) d v area = controlText m
-saidText answers.Connected d v area = 99 ∷ 111 ∷ 110 ∷ 110 ∷ 101 ∷ 99 ∷ 116 ∷ 101 ∷ 100 ∷ []
-saidText answers.Failed d v area = 102 ∷ 97 ∷ 105 ∷ 108 ∷ 101 ∷ 100 ∷ []
-saidText answers.Already d v area = 97 ∷ 108 ∷ 114 ∷ 101 ∷ 97 ∷ 100 ∷ 121 ∷ []
-saidText answers.Yes d v area = 121 ∷ 101 ∷ 115 ∷ []
-saidText answers.No d v area = 110 ∷ 111 ∷ []
-saidText answers.Query d v area = queryText (d .query)
-saidText (answers.End n) d v area = (101 ∷ 110 ∷ 100 ∷ 32 ∷ []) ++ decimalText n
+saidText (Refused n) d v area = (114 ∷ 101 ∷ 102 ∷ 117 ∷ 115 ∷ 101 ∷ 100 ∷ 32 ∷ []) ++ decimalText n
+saidText (Accepted a) d v area = acceptedText a d v area

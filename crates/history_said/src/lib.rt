@@ -1,11 +1,15 @@
 // What the box's calls answer, as history-format.md has it, written into lent memory as far as there is room.
 use config::PidPriority;
 use control::DongleMessage;
+use control_line::Taken;
+use link::Connecting;
 use obd2::Answer;
 use obd2::Details;
+use obd2::Said;
 use poller::Query;
 use reply::Reply;
 use reply::Response;
+use rounds::Step;
 ghost use mathlib.Core.Path.{_≡_};
 ghost use mathlib.Core.List.{_++_};
 ghost use Prim.Native.Nat.{min};
@@ -13,7 +17,7 @@ ghost use Rattle.control.specs.declared.DongleMessage.the-variants.{SetPidPrior
 ghost use Rattle.numeral.specs.Decimal.{decimalText};
 ghost use Rattle.writing.specs.Fill.{Wrote};
 ghost use Rattle.writing_pairs.specs.Pairs.{pidText};
-ghost use Rattle.history_said.specs.Texts.{heldOf, linesText, readingText, collectedText, rangeText, digitOf, controlText, ecuText, queryText, markText, valueText, valuesFrom, doneText, saidText};
+ghost use Rattle.history_said.specs.Texts.{heldOf, linesText, readingText, collectedText, rangeText, digitOf, askedText, controlText, takenText, connectingText, checkText, ecuText, queryText, stepText, markText, valueText, valuesFrom, doneText, acceptedText, saidText};
 
 // How many lines have a length.
 fn counted(lines: u8) -> usize
@@ -208,6 +212,96 @@ fn done(out: &mut [u8], at: usize, details: Details, delivered: Response) -> usi
     values(out, word, delivered.count, pids, brought, notices)
 }
 
+// What an ask is answered.
+fn asked(
+    out: &mut [u8],
+    at: usize,
+    answer: cache::Answer,
+    lines: u8,
+    lengths: [u8; 8],
+    area: &[u8],
+) -> usize
+    ensures { λ r. ⌜ Wrote (now (out .entry)) at (askedText answer lines lengths (now (area .entry))) (now (out .exit)) r ⌝ }
+{
+    match answer {
+        cache::Answer::Unable => writing::put(out, at, b"unable"),
+        cache::Answer::NoData => writing::put(out, at, b"nodata"),
+        cache::Answer::Unknown => writing::put(out, at, b"unknown"),
+        cache::Answer::Range => range(out, at, lines, lengths, area),
+        cache::Answer::Reading(pid) => reading(out, at, pid, lines, lengths, area),
+        cache::Answer::Waiting(pid) => named(out, at, b"waiting ", pid),
+    }
+}
+
+// What the poller takes off the control line.
+fn taken(out: &mut [u8], at: usize, taken: Taken) -> usize
+    ensures { λ r. ⌜ Wrote (now (out .entry)) at (takenText taken) (now (out .exit)) r ⌝ }
+{
+    match taken {
+        Taken::Message(message) => control(out, at, message),
+        Taken::Nothing => writing::put(out, at, b"none"),
+    }
+}
+
+// How connecting went.
+fn connecting(out: &mut [u8], at: usize, went: Connecting) -> usize
+    ensures { λ r. ⌜ Wrote (now (out .entry)) at (connectingText went) (now (out .exit)) r ⌝ }
+{
+    match went {
+        Connecting::Connected => writing::put(out, at, b"connected"),
+        Connecting::Failed => writing::put(out, at, b"failed"),
+        Connecting::Already => writing::put(out, at, b"already"),
+    }
+}
+
+// Whether a reconnect may be tried.
+fn check(out: &mut [u8], at: usize, yes: bool) -> usize
+    ensures { λ r. ⌜ Wrote (now (out .entry)) at (checkText yes) (now (out .exit)) r ⌝ }
+{
+    if yes {
+        return writing::put(out, at, b"yes");
+    }
+    writing::put(out, at, b"no")
+}
+
+// The query that is now due, or the round's end.
+fn step(out: &mut [u8], at: usize, step: Step, due: Query) -> usize
+    ensures { λ r. ⌜ Wrote (now (out .entry)) at (stepText step due) (now (out .exit)) r ⌝ }
+{
+    match step {
+        Step::Ask => query(out, at, due),
+        Step::End(n) => numbered(out, at, b"end ", n as u64),
+    }
+}
+
+// What an accepted call answers.
+fn accepted(
+    out: &mut [u8],
+    at: usize,
+    said: Said,
+    details: Details,
+    delivered: Response,
+    area: &[u8],
+) -> usize
+    ensures { λ r. ⌜ Wrote (now (out .entry)) at (acceptedText said details delivered (now (area .entry))) (now (out .exit)) r ⌝ }
+{
+    let lines = details.lines;
+    let lengths = details.lengths;
+    let due = details.query;
+    match said {
+        Said::Started => writing::put(out, at, b"started"),
+        Said::Done => done(out, at, details, delivered),
+        Said::Client(n) => numbered(out, at, b"client ", n as u64),
+        Said::Asked(answer) => asked(out, at, answer, lines, lengths, area),
+        Said::Collected(pid, wait) => collected(out, at, pid, wait, lines, lengths, area),
+        Said::GivenUp => writing::put(out, at, b"nodata"),
+        Said::Taken(message) => taken(out, at, message),
+        Said::Connecting(went) => connecting(out, at, went),
+        Said::Check(yes) => check(out, at, yes),
+        Said::Step(next) => step(out, at, next, due),
+    }
+}
+
 // What a call answers, without its report, from the place `at` on; the place behind it. `delivered` is the response
 // that the call brought, with a count of 0 for every other call; `area` is the lent area after the call.
 pub fn said(
@@ -220,29 +314,8 @@ pub fn said(
 ) -> usize
     ensures { λ r. ⌜ Wrote (now (out .entry)) at (saidText answer details delivered (now (area .entry))) (now (out .exit)) r ⌝ }
 {
-    let lines = details.lines;
-    let lengths = details.lengths;
-    let asked = details.query;
     match answer {
         Answer::Refused(n) => numbered(out, at, b"refused ", n as u64),
-        Answer::Started => writing::put(out, at, b"started"),
-        Answer::Client(n) => numbered(out, at, b"client ", n as u64),
-        Answer::Done => done(out, at, details, delivered),
-        Answer::Unable => writing::put(out, at, b"unable"),
-        Answer::NoData => writing::put(out, at, b"nodata"),
-        Answer::Unknown => writing::put(out, at, b"unknown"),
-        Answer::Range => range(out, at, lines, lengths, area),
-        Answer::Reading(pid) => reading(out, at, pid, lines, lengths, area),
-        Answer::Collected(pid, wait) => collected(out, at, pid, wait, lines, lengths, area),
-        Answer::Waiting(pid) => named(out, at, b"waiting ", pid),
-        Answer::Nothing => writing::put(out, at, b"none"),
-        Answer::Control(message) => control(out, at, message),
-        Answer::Connected => writing::put(out, at, b"connected"),
-        Answer::Failed => writing::put(out, at, b"failed"),
-        Answer::Already => writing::put(out, at, b"already"),
-        Answer::Yes => writing::put(out, at, b"yes"),
-        Answer::No => writing::put(out, at, b"no"),
-        Answer::Query => query(out, at, asked),
-        Answer::End(n) => numbered(out, at, b"end ", n as u64),
+        Answer::Accepted(what) => accepted(out, at, what, details, delivered, area),
     }
 }

@@ -8,11 +8,10 @@ use obd2::State;
 use obd2::call::Brought;
 use obd2::call::Call;
 ghost use mathlib.Core.Path.{_≡_};
-ghost use Rattle.dispatch.specs.Dispatch.{callOf, areaOf};
+ghost use Rattle.dispatch.specs.Dispatch.{callOf, areaOf, Promised};
 ghost use Rattle.lent_calls.specs.Bringing.{bringing};
 ghost use Rattle.obd2.specs.Answers.{numberIn};
-ghost use Rattle.obd2.specs.Calls.{startOf};
-ghost use Rattle.obd2.specs.History.{step, Fit};
+ghost use Rattle.obd2.specs.History.{startOf, step};
 ghost use Rattle.obd2.specs.Refusals.{startRefusal};
 ghost use Rattle.profile_list.specs.Copied.{copiedOf};
 
@@ -46,7 +45,7 @@ pub fn call(
 ) -> Answered
     ensures { λ r. ⌜ r ≡ step state (callOf time call (bringing brought (copiedOf (now (profiles .entry)))) (now (cmd .entry)) (now (area .entry))) ⌝ }
     ensures { λ r. ⌜ now (area .exit) ≡ areaOf state time call (bringing brought (copiedOf (now (profiles .entry)))) (now (cmd .entry)) (now (area .entry)) ⌝ }
-    ensures { λ _. ⌜ Fit (callOf time call (bringing brought (copiedOf (now (profiles .entry)))) (now (cmd .entry)) (now (area .entry))) ⌝ }
+    ensures { λ r. ⌜ Promised state (callOf time call (bringing brought (copiedOf (now (profiles .entry)))) (now (cmd .entry)) (now (area .entry))) (r .answer) ⌝ }
 {
     let held = profile_list::copied(profiles);
     let brought = bringing(brought, held);

@@ -1,7 +1,6 @@
 // Lines read into lent memory from an input that comes in parts, however it is cut. A line that is longer
 // than the memory is one line still, and marked.
 ghost use mathlib.Core.Path.{_≡_};
-ghost use Prim.Native.Nat.{min};
 ghost use Rattle.text.specs.Cut.{headOf};
 ghost use Rattle.lines.specs.Reading.{startReading, keptOf, keptBytes, fedOf, answersOf};
 
@@ -29,18 +28,12 @@ pub fn start() -> Reading
     }
 }
 
-fn least(a: usize, b: usize) -> usize
-    ensures { λ r. ⌜ r ≡ min a b ⌝ }
-{
-    if a < b { a } else { b }
-}
-
 // Bytes of the line behind those that were read; what has no room is left out.
 fn keep(r: Reading, s: &[u8], line: &mut [u8]) -> Reading
     ensures { λ k. ⌜ k ≡ keptOf (now (line .entry)) r (now (s .entry)) ⌝ }
     ensures { λ _. ⌜ now (line .exit) ≡ keptBytes (now (line .entry)) r (now (s .entry)) ⌝ }
 {
-    let at = least(r.len, line.len());
+    let at = base::least(r.len, line.len());
     let room = line.len() - at;
     if room < s.len() {
         bytes::copy(&s[..room], &mut line[at..]);

@@ -18,9 +18,12 @@ use Rattle.passes.specs.declared.Ledger.{Ledger}
 use Rattle.passes.specs.declared.Pass.{Pass}
 use Rattle.passes.specs.declared.Pass.the-variants.{Register, Clear}
 use Rattle.passes.specs.declared.Terms.{Terms}
-use Rattle.report.specs.Metrics.{noMetrics, notedOf}
+use Rattle.report.specs.Metrics.{noMetrics, notedOf as countedOf}
 use Rattle.report.specs.Report.{noReport, reportOf}
 use Rattle.manager.specs.declared.Manager.{Manager}
+use Rattle.manager.specs.declared.Event.{Event}
+use Rattle.manager.specs.declared.Event.the-variants.{ProfilePidsChanged, Waiting, Consumed, Nothing}
+use Rattle.manager.specs.declared.Noted.{Noted}
 use Rattle.manager.specs.declared.Answer.{Answer}
 
 abbrev pub withTable : Manager → List PidInfo → Manager
@@ -62,10 +65,6 @@ startOf t = record {
   report = noReport;
 }
 
--- ProfilePidsChanged.
-unfoldable pub changedOf : Manager → Terms → Answer
-changedOf m t = finishOf (withTable m (registerOf t (m .table) .table)) (registerOf t (m .table) .outbox) t
-
 -- An event that changes the entry of one PID, and what is told of it.
 unfoldable pub entrySet : (PidInfo → PidInfo) → ℕ → List PidInfo → List PidInfo
 entrySet f p xs = set xs p (f (getD xs p nobody))
@@ -73,17 +72,28 @@ entrySet f p xs = set xs p (f (getD xs p nobody))
 unfoldable pub entryTold : (PidInfo → PidInfo) → ℕ → List PidInfo → List DongleMessage
 entryTold f p xs = toldOf p (speed (getD xs p nobody)) (speed (f (getD xs p nobody)))
 
-unfoldable pub waitingCallOf : Manager → Terms → ℕ → Answer
-waitingCallOf m t p =
-    let f = waitingOf (t .settings .mode) (t .now) in
-    finishOf (withTable m (entrySet f p (m .table))) (sendAll emptyOf (entryTold f p (m .table))) t
+abbrev pub waitingAt : Terms → PidInfo → PidInfo
+waitingAt t = waitingOf (t .settings .mode) (t .now)
 
--- Hits and misses count unknown PIDs too.
-unfoldable pub consumedCallOf : Manager → Terms → ℕ → WaitDuration → Answer
-consumedCallOf m t p w =
-    let f = consumedOf (promotesOf (t .settings .mode) (t .settings .promotion) w) (t .now) in
-    finishOf (record { table = entrySet f p (m .table); metrics = notedOf (m .metrics) w; last = m .last }) (sendAll emptyOf (entryTold f p (m .table))) t
+abbrev pub consumedAt : Terms → WaitDuration → PidInfo → PidInfo
+consumedAt t w = consumedOf (promotesOf (t .settings .mode) (t .settings .promotion) w) (t .now)
 
--- No event: tick, and what response, register and leave do here.
-unfoldable pub tickOf : Manager → Terms → Answer
-tickOf m t = finishOf m emptyOf t
+-- What an event makes of the manager, and what is sent because of it. Hits and misses count unknown PIDs too.
+unfoldable pub after : Manager → Terms → Event → Manager
+after m t ProfilePidsChanged = withTable m (through t registering (m .table))
+after m t (Waiting p) = withTable m (entrySet (waitingAt t) p (m .table))
+after m t (Consumed p w) = record { table = entrySet (consumedAt t w) p (m .table); metrics = countedOf (m .metrics) w; last = m .last }
+after m t Nothing = m
+
+unfoldable pub sent : Manager → Terms → Event → List DongleMessage
+sent m t ProfilePidsChanged = news t registering (m .table)
+sent m t (Waiting p) = entryTold (waitingAt t) p (m .table)
+sent m t (Consumed p w) = entryTold (consumedAt t w) p (m .table)
+sent m t Nothing = []
+
+unfoldable pub notedOf : Manager → Terms → Event → Noted
+notedOf m t e = record { manager = after m t e; outbox = sendAll emptyOf (sent m t e) }
+
+-- A CALL OF THE MANAGER: its event, then maintenance if it is due.
+unfoldable pub handleOf : Manager → Terms → Event → Answer
+handleOf m t e = finishOf (after m t e) (sendAll emptyOf (sent m t e)) t

@@ -11,21 +11,21 @@ use borrow.Author.Tests.{eqb-true, eqb-false}
 use Rattle.base.specs.Choice.{pick, cases}
 use Rattle.control.specs.Speed.{untracked, afterAll, after-append}
 use Rattle.control.specs.Names.{Named, named-none, named-append}
-use Rattle.control.specs.Outbox.{emptyOf, sendAll, messages, send-append, send-none, sent-messages, sent-count}
+use Rattle.control.specs.Outbox.{emptyOf, sendAll, messages, send-append, sent-messages, sent-count}
 use Rattle.control.specs.Told.{told-length, told-own, told-other}
 use Rattle.control.specs.declared.DongleMessage.{DongleMessage}
 use Rattle.control.specs.declared.outbox.Outbox.{Outbox}
-use Rattle.pid_table.specs.Entry.{nobody, speed, waitingOf, promotesOf, consumedOf}
+use Rattle.pid_table.specs.Entry.{nobody, speed}
 use Rattle.pid_table.specs.declared.PidInfo.{PidInfo}
-use Rattle.pid_table.specs.declared.WaitDuration.{WaitDuration}
 use Rattle.passes.specs.Sweep.{through, news}
 use Rattle.passes.specs.Laws.{speedAt, through-length, news-append, news-speeds, news-few, upkeep-once, register-once, registering-once}
 use Rattle.passes.specs.declared.Terms.{Terms}
-use Rattle.report.specs.Metrics.{notedOf}
-use Rattle.manager.specs.Calls.{withTable, registering, maintenance, dueOf, maintainOf, finishOf, noTable, registerOf, startOf, changedOf, entrySet, entryTold, waitingCallOf, consumedCallOf, tickOf}
+use Rattle.manager.specs.Calls.{withTable, registering, maintenance, dueOf, maintainOf, finishOf, noTable, registerOf, startOf, entrySet, entryTold, waitingAt, consumedAt, after, sent, handleOf}
 use Rattle.manager.specs.Names.{news-named, entry-named}
 use Rattle.manager.specs.Cases.{finish-due, finish-not-due}
 use Rattle.manager.specs.declared.Manager.{Manager}
+use Rattle.manager.specs.declared.Event.{Event}
+use Rattle.manager.specs.declared.Event.the-variants.{ProfilePidsChanged, Waiting, Consumed, Nothing}
 use Rattle.manager.specs.declared.Answer.{Answer}
 
 -- The law of a call that found this table, had this to send and gave this answer.
@@ -114,50 +114,31 @@ entry-tells m k t f p w h e =
     (λ q. entry-speeds f p (m .table) q (omega arith) ∙ ap (λ (xs : List PidInfo). speedAt xs q) (sym e))
     (entry-named f p 256 (m .table) h)
 
--- What each call has to send.
-unfoldable pub waitingSent : Manager → Terms → ℕ → List DongleMessage
-waitingSent m t p =
-    let f = waitingOf (t .settings .mode) (t .now) in
-    entryTold f p (m .table) ++ finishSent (withTable m (entrySet f p (m .table))) t
-
-unfoldable pub consumedSent : Manager → Terms → ℕ → WaitDuration → List DongleMessage
-consumedSent m t p d =
-    let f = consumedOf (promotesOf (t .settings .mode) (t .settings .promotion) d) (t .now) in
-    entryTold f p (m .table) ++ finishSent (withTable m (entrySet f p (m .table))) t
-
-unfoldable pub changedSent : Manager → Terms → List DongleMessage
-changedSent m t = news t registering (m .table) ++ finishSent (withTable m (through t registering (m .table))) t
-
 module _ (m : Manager) (t : Terms) (w : length (m .table) ≡ 256) where
-  pub waiting-tells : (p : ℕ) → p < 256 → Tells (m .table) (waitingSent m t p) (waitingCallOf m t p)
-  unfolding waitingCallOf waitingSent
-  waiting-tells p h =
-      let f = waitingOf (t .settings .mode) (t .now) in
-      entry-tells m (withTable m (entrySet f p (m .table))) t f p w h refl
-
-  pub consumed-tells : (p : ℕ) (d : WaitDuration) → p < 256 → Tells (m .table) (consumedSent m t p d) (consumedCallOf m t p d)
-  unfolding consumedCallOf consumedSent finishSent
-  consumed-tells p d h =
-      let f = consumedOf (promotesOf (t .settings .mode) (t .settings .promotion) d) (t .now) in
-      entry-tells m (record { table = entrySet f p (m .table); metrics = notedOf (m .metrics) d; last = m .last }) t f p w h refl
-
-  pub tick-tells : Tells (m .table) (finishSent m t) (tickOf m t)
-  unfolding tickOf afterAll
-  tick-tells = rw (← (send-none emptyOf)) (event-tells m t (m .table) [] w (let n = finish-few m t in omega arith) (λ q. refl) (named-none 256))
-
   changed-few : length (news t registering (m .table) ++ finishSent (withTable m (through t registering (m .table))) t) ≤ 256
   unfolding finishSent
   changed-few = cases _ (dueOf (m .last) (t .now))
       (λ e. rw (e, ← (news-append t registering maintenance (m .table))) (rw w at (news-few t (registering ++ maintenance) (m .table) (λ q x. register-once t q x))))
       (λ e. rw (e, append-nil (news t registering (m .table))) (rw w at (news-few t registering (m .table) (λ q x. registering-once t q x))))
 
-  pub changed-tells : Tells (m .table) (changedSent m t) (changedOf m t)
-  unfolding changedOf registerOf changedSent
-  changed-tells =
+  -- An event names a PID of the table.
+  abbrev pub Names : Event → Type 0
+  Names ProfilePidsChanged = Unit {0}
+  Names (Waiting p) = p < 256
+  Names (Consumed p d) = p < 256
+  Names Nothing = Unit {0}
+
+  -- EVERY CALL tells what its event and its maintenance made of the table.
+  pub handle-tells : (e : Event) → Names e → Tells (m .table) (sent m t e ++ finishSent (after m t e) t) (handleOf m t e)
+  unfolding handleOf after sent afterAll
+  handle-tells ProfilePidsChanged h =
       let n = changed-few in
       event-tells (withTable m (through t registering (m .table))) t (m .table) (news t registering (m .table)) (through-length t registering (m .table) ∙ w) (omega arith)
       (λ q. news-speeds t registering (m .table) q)
       (news-named t registering 256 (m .table) (omega arith))
+  handle-tells (Waiting p) h = entry-tells m (after m t (Waiting p)) t (waitingAt t) p w h refl
+  handle-tells (Consumed p d) h = entry-tells m (after m t (Consumed p d)) t (consumedAt t d) p w h refl
+  handle-tells Nothing h = event-tells m t (m .table) [] w (let n = finish-few m t in omega arith) (λ q. refl) (named-none 256)
 
 pub no-whole : length noTable ≡ 256
 unfolding noTable

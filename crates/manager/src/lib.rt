@@ -8,8 +8,8 @@ use pid_table::WaitDuration;
 use report::Report;
 use report::metrics::CacheMetrics;
 ghost use mathlib.Core.Path.{_≡_};
-ghost use Prim.Native.Nat.{_-_};
-ghost use Rattle.manager.specs.Calls.{dueOf, maintainOf, finishOf, noTable, registerOf, startOf, changedOf, waitingCallOf, consumedCallOf, tickOf};
+ghost use Rattle.manager.specs.declared.Event.the-variants.{ProfilePidsChanged, Waiting, Consumed};
+ghost use Rattle.manager.specs.Calls.{dueOf, maintainOf, finishOf, noTable, registerOf, startOf, notedOf, handleOf};
 
 pub struct Manager {
     // pid_info, by PID
@@ -19,6 +19,21 @@ pub struct Manager {
     pub last: u64,
 }
 
+// What a call tells the manager (the Rust's CacheManagerMessage). Register, leave and response are no events here, as
+// tick is none: they only let it do maintenance.
+pub enum Event {
+    ProfilePidsChanged,
+    Waiting(u8),
+    Consumed(u8, WaitDuration),
+    Nothing,
+}
+
+// What an event leaves and sends.
+pub struct Noted {
+    pub manager: Manager,
+    pub outbox: Outbox,
+}
+
 // What a call leaves, sends and reports.
 pub struct Answer {
     pub manager: Manager,
@@ -26,17 +41,10 @@ pub struct Answer {
     pub report: Report,
 }
 
-// The time from one to the other, 0 where the second comes first.
-fn elapsed(since: u64, now: u64) -> u64
-    ensures { λ r. ⌜ r ≡ now - since ⌝ }
-{
-    if since < now { now - since } else { 0 }
-}
-
 fn due(last: u64, now: u64) -> bool
     ensures { λ r. ⌜ r ≡ dueOf last now ⌝ }
 {
-    2000 <= elapsed(last, now)
+    2000 <= base::elapsed(last, now)
 }
 
 fn maintain(manager: Manager, outbox: Outbox, terms: Terms) -> Answer
@@ -52,7 +60,7 @@ fn maintain(manager: Manager, outbox: Outbox, terms: Terms) -> Answer
         terms,
     );
     let tracked = kept.table;
-    let report = report::report_of(tracked, metrics, elapsed(manager.last, terms.now));
+    let report = report::report_of(tracked, metrics, base::elapsed(manager.last, terms.now));
     let cleared = passes::sweep(kept, Pass::Clear, terms);
     let left = cleared.table;
     let sent = cleared.outbox;
@@ -132,33 +140,39 @@ pub fn start(terms: Terms) -> Answer
 }
 
 // The profiles have changed.
-pub fn profile_pids_changed(mut manager: Manager, terms: Terms) -> Answer
-    ensures { λ r. ⌜ r ≡ changedOf manager terms ⌝ }
+fn profile_pids_changed(mut manager: Manager, terms: Terms) -> Noted
+    ensures { λ r. ⌜ r ≡ notedOf manager terms ProfilePidsChanged ⌝ }
 {
     let table = manager.table;
     let registered = register(table, terms);
     let next = registered.table;
-    let sent = registered.outbox;
+    let told = registered.outbox;
     manager.table = next;
-    finish(manager, sent, terms)
+    Noted {
+        manager: manager,
+        outbox: told,
+    }
 }
 
 // A client waits for a PID.
-pub fn waiting(mut manager: Manager, terms: Terms, pid: u8) -> Answer
-    ensures { λ r. ⌜ r ≡ waitingCallOf manager terms pid ⌝ }
+fn waiting(mut manager: Manager, terms: Terms, pid: u8) -> Noted
+    ensures { λ r. ⌜ r ≡ notedOf manager terms (Waiting pid) ⌝ }
 {
     let settings = terms.settings;
     let at = pid as usize;
     let before = manager.table[at];
     let after = pid_table::waiting(before, settings.mode, terms.now);
     manager.table[at] = after;
-    let outbox = pid_table::told(control::outbox::empty(), pid, before, after);
-    finish(manager, outbox, terms)
+    let sent = pid_table::told(control::outbox::empty(), pid, before, after);
+    Noted {
+        manager: manager,
+        outbox: sent,
+    }
 }
 
 // A client consumed a reading of a PID.
-pub fn consumed(mut manager: Manager, terms: Terms, pid: u8, wait: WaitDuration) -> Answer
-    ensures { λ r. ⌜ r ≡ consumedCallOf manager terms pid wait ⌝ }
+fn consumed(mut manager: Manager, terms: Terms, pid: u8, wait: WaitDuration) -> Noted
+    ensures { λ r. ⌜ r ≡ notedOf manager terms (Consumed pid wait) ⌝ }
 {
     let settings = terms.settings;
     let at = pid as usize;
@@ -167,15 +181,39 @@ pub fn consumed(mut manager: Manager, terms: Terms, pid: u8, wait: WaitDuration)
     let after = pid_table::consumed(before, promotes, terms.now);
     manager.table[at] = after;
     let metrics = manager.metrics;
-    let noted = report::metrics::noted(metrics, wait);
-    manager.metrics = noted;
-    let outbox = pid_table::told(control::outbox::empty(), pid, before, after);
-    finish(manager, outbox, terms)
+    let counted = report::metrics::noted(metrics, wait);
+    manager.metrics = counted;
+    let sent = pid_table::told(control::outbox::empty(), pid, before, after);
+    Noted {
+        manager: manager,
+        outbox: sent,
+    }
 }
 
-// A call without an event: also what response, register and leave do here.
-pub fn tick(manager: Manager, terms: Terms) -> Answer
-    ensures { λ r. ⌜ r ≡ tickOf manager terms ⌝ }
+// What an event leaves and sends, without maintenance.
+fn note(manager: Manager, terms: Terms, event: Event) -> Noted
+    ensures { λ r. ⌜ r ≡ notedOf manager terms event ⌝ }
 {
-    finish(manager, control::outbox::empty(), terms)
+    match event {
+        Event::ProfilePidsChanged => profile_pids_changed(manager, terms),
+        Event::Waiting(pid) => waiting(manager, terms, pid),
+        Event::Consumed(pid, wait) => consumed(manager, terms, pid, wait),
+        Event::Nothing => {
+            let nothing = control::outbox::empty();
+            Noted {
+                manager: manager,
+                outbox: nothing,
+            }
+        }
+    }
+}
+
+// A call of the manager: its event, then maintenance if that is due.
+pub fn handle(manager: Manager, terms: Terms, event: Event) -> Answer
+    ensures { λ r. ⌜ r ≡ handleOf manager terms event ⌝ }
+{
+    let noted = note(manager, terms, event);
+    let after = noted.manager;
+    let sent = noted.outbox;
+    finish(after, sent, terms)
 }

@@ -5,6 +5,7 @@ use mathlib.Core.Path.{_≡_, refl}
 use Prim.Native.Nat.{ℕ}
 use lib.ListN.{length, replicate}
 use Rattle.base.specs.Choice.{pick}
+use Rattle.base.specs.Count.{moreOf}
 use Rattle.ascii.specs.Chars.{upper, hexValue, between}
 use Rattle.capture.specs.Format.{recordBytes, le}
 use Rattle.command.specs.Classify.{commandOf, stripped, sameText, rangeTexts, indexOf, pidOf}
@@ -14,7 +15,7 @@ use Rattle.config.specs.declared.PidPriority.the-variants.{Slow}
 use Rattle.delivery.specs.Rules.{revsAfter}
 use Rattle.pid_list.specs.Rules.{entries, sizeOf, place, wrap, swapOut, appendOf, fitOf, removeOf, setOf, nextOf}
 use Rattle.pid_list.specs.declared.PidList.{PidList}
-use Rattle.pid_table.specs.Entry.{isFast, promotesOf, consumedOf, oneMore, pastOf, looseOf, idleOf, removedOf}
+use Rattle.pid_table.specs.Entry.{isFast, promotesOf, consumedOf, pastOf, looseOf, idleOf, removedOf}
 use Rattle.pid_table.specs.declared.PidInfo.{PidInfo}
 use Rattle.pid_table.specs.declared.LastTime.the-variants.{Never, At}
 use Rattle.pid_table.specs.declared.WaitDuration.the-variants.{Miss}
@@ -88,5 +89,5 @@ pub rows : results
     ∷ (6 ∷ 5 ∷ 4 ∷ 5 ∷ [])
     ∷ (0x01 ∷ 0x00 ∷ 0x00 ∷ 0x00 ∷ 0x01 ∷ 0x02 ∷ 0x00 ∷ 0x41 ∷ 0x0c ∷ [])
     ∷ []
-unfolding commandOf stripped sameText rangeTexts indexOf pidOf upper hexValue between recordBytes le revsAfter entries sizeOf place wrap swapOut appendOf fitOf removeOf setOf nextOf isFast promotesOf consumedOf oneMore pastOf looseOf idleOf removedOf valueOf dataBytes firstLine firstLengthOf lengthsOf countedOf foldOf
+unfolding commandOf stripped sameText rangeTexts indexOf pidOf upper hexValue between recordBytes le revsAfter entries sizeOf place wrap swapOut appendOf fitOf removeOf setOf nextOf isFast promotesOf consumedOf moreOf pastOf looseOf idleOf removedOf valueOf dataBytes firstLine firstLengthOf lengthsOf countedOf foldOf
 rows = refl

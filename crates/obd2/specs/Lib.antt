@@ -1,6 +1,8 @@
 pub mod State
+pub mod Call
+pub mod Done
 pub mod Refusals
-pub mod Calls
 pub mod History
-pub mod Accepted
 pub mod Answers
+pub mod Accepted
+pub mod Keeps

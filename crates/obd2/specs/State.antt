@@ -12,7 +12,6 @@ use Rattle.desk.specs.Rules.{startDesk}
 use Rattle.desk.specs.declared.Desk.{Desk}
 use Rattle.manager.specs.Calls.{startOf}
 use Rattle.manager.specs.declared.Answer.{Answer as Managed}
-use Rattle.passes.specs.declared.Terms.{Terms}
 use Rattle.poller.specs.State.{noQuery}
 use Rattle.poller.specs.State.{startOf as startPoller}
 use Rattle.poller.specs.declared.Poller.{Poller}
@@ -34,9 +33,6 @@ withPoller s p = record { desk = s .desk; manager = s .manager; poller = p; line
 abbrev pub withLine : State → ControlLine → State
 withLine s l = record { desk = s .desk; manager = s .manager; poller = s .poller; line = l; profiles = s .profiles; settings = s .settings; time = s .time }
 
-abbrev pub withProfiles : State → Profiles → State
-withProfiles s x = record { desk = s .desk; manager = s .manager; poller = s .poller; line = s .line; profiles = x; settings = s .settings; time = s .time }
-
 abbrev pub withSettings : State → Settings → State
 withSettings s x = record { desk = s .desk; manager = s .manager; poller = s .poller; line = s .line; profiles = s .profiles; settings = x; time = s .time }
 
@@ -44,34 +40,30 @@ withSettings s x = record { desk = s .desk; manager = s .manager; poller = s .po
 abbrev pub at : State → ℕ → State
 at s t = record { desk = s .desk; manager = s .manager; poller = s .poller; line = s .line; profiles = s .profiles; settings = s .settings; time = t }
 
--- The manager as a call of it left it, and its messages behind those that wait.
-unfoldable pub managed : State → Managed → State
-managed s a = record {
-  desk = s .desk;
+-- A manager's call: desk and profiles after it, the manager as it left it, and its messages behind those that wait.
+unfoldable pub managed : State → Desk → Profiles → Managed → State
+managed s d ps a = record {
+  desk = d;
   manager = a .manager;
   poller = s .poller;
   line = pushAllOf (s .line) (messages (a .outbox));
-  profiles = s .profiles;
+  profiles = ps;
   settings = s .settings;
   time = s .time;
 }
 
--- What the manager goes by in a call at this time.
-abbrev pub termsOf : State → ℕ → Terms
-termsOf s t = record { profiles = s .profiles; settings = s .settings; now = t }
-
--- Beside an answer: nothing, or a report, a reply's lines, a query.
+-- Beside an answer: nothing, or a reply's lines, a response's values and a report, a query.
 abbrev pub noDetails : Details
 noDetails = record { lines = 0; lengths = replicate 8 0; values = replicate 6 0; notices = replicate 6 false; query = noQuery; report = noReport }
-
-abbrev pub reporting : Report → Details
-reporting r = record { lines = 0; lengths = replicate 8 0; values = replicate 6 0; notices = replicate 6 false; query = noQuery; report = r }
 
 abbrev pub linesOf : ℕ → List ℕ → Details
 linesOf n lengths = record { lines = n; lengths = lengths; values = replicate 6 0; notices = replicate 6 false; query = noQuery; report = noReport }
 
 abbrev pub delivering : List ℕ → List Bool → Report → Details
 delivering values notices r = record { lines = 0; lengths = replicate 8 0; values = values; notices = notices; query = noQuery; report = r }
+
+abbrev pub reporting : Report → Details
+reporting r = delivering (replicate 6 0) (replicate 6 false) r
 
 abbrev pub querying : Query → Details
 querying q = record { lines = 0; lengths = replicate 8 0; values = replicate 6 0; notices = replicate 6 false; query = q; report = noReport }

@@ -1,22 +1,23 @@
-// What the calls share: the tests of refusals 1 and 15, and answers put together.
+// The tests of refusals 1 and 15, each made in one place, and answers put together, which the calls share.
 use super::Answer;
 use super::Answered;
 use super::Details;
+use super::Said;
 use super::State;
 use poller::Query;
 use report::Report;
 ghost use mathlib.Core.Path.{_≡_};
-ghost use Rattle.obd2.specs.Refusals.{badTimeAfter, exceeds};
-ghost use Rattle.obd2.specs.State.{reporting, linesOf, delivering, querying, noDetails, answered};
-ghost use Rattle.obd2.specs.Calls.{told};
-ghost use Rattle.obd2.specs.declared.Answer.the-variants.{Refused};
+ghost use Rattle.obd2.specs.History.{refused};
+ghost use Rattle.obd2.specs.Refusals.{badTime, exceeds};
+ghost use Rattle.obd2.specs.State.{at, linesOf, delivering, reporting, querying, noDetails, answered};
+ghost use Rattle.obd2.specs.declared.Answer.the-variants.{Accepted};
 
 // The last time that the box takes: up to it the rates are exact enough.
 const LATEST: u64 = 16777215999;
 
 // Refusal 1: the time is before the last accepted one, or too late.
 pub fn bad_time(last: u64, time: u64) -> bool
-    ensures { λ r. ⌜ r ≡ badTimeAfter last time ⌝ }
+    ensures { λ r. ⌜ r ≡ badTime last time ⌝ }
 {
     if time < last {
         return true;
@@ -31,18 +32,26 @@ pub fn crowded(waiting: u16, sent: u16) -> bool
     control_line::free(waiting) < sent
 }
 
-fn reporting(report: Report) -> Details
-    ensures { λ r. ⌜ r ≡ reporting report ⌝ }
+// What a response brought for each of its PIDs, and the report of a manager's call.
+pub fn delivering(values: [u32; 6], notices: [bool; 6], report: Report) -> Details
+    ensures { λ r. ⌜ r ≡ delivering values notices report ⌝ }
 {
     let query = poller::no_query();
     Details {
         lines: 0,
         lengths: [0u8; 8],
-        values: [0u32; 6],
-        notices: [false; 6],
+        values: values,
+        notices: notices,
         query: query,
         report: report,
     }
+}
+
+// The report of a call that brings no values.
+pub fn reporting(report: Report) -> Details
+    ensures { λ r. ⌜ r ≡ reporting report ⌝ }
+{
+    delivering([0u32; 6], [false; 6], report)
 }
 
 pub fn no_details() -> Details
@@ -62,16 +71,6 @@ pub fn lines_of(lines: u8, lengths: [u8; 8]) -> Details
     details
 }
 
-// What a response brought for each of its PIDs.
-pub fn delivering(values: [u32; 6], notices: [bool; 6], report: Report) -> Details
-    ensures { λ r. ⌜ r ≡ delivering values notices report ⌝ }
-{
-    let mut details = reporting(report);
-    details.values = values;
-    details.notices = notices;
-    details
-}
-
 pub fn querying(query: Query) -> Details
     ensures { λ r. ⌜ r ≡ querying query ⌝ }
 {
@@ -82,7 +81,7 @@ pub fn querying(query: Query) -> Details
 
 // A refused call: its number, and the box as it was.
 pub fn refuse(state: State, number: u8) -> Answered
-    ensures { λ r. ⌜ r ≡ answered state (Refused number) noDetails ⌝ }
+    ensures { λ r. ⌜ r ≡ refused state number ⌝ }
 {
     let details = no_details();
     Answered {
@@ -92,22 +91,14 @@ pub fn refuse(state: State, number: u8) -> Answered
     }
 }
 
-// An accepted call of the manager: its table, its messages behind those that wait, and its report.
-pub fn told(mut state: State, managed: manager::Answer, time: u64, answer: Answer) -> Answered
-    ensures { λ r. ⌜ r ≡ told state time managed answer ⌝ }
+// An accepted call: the box with what the call changed, and its time.
+pub fn accept(mut state: State, time: u64, said: Said, details: Details) -> Answered
+    ensures { λ r. ⌜ r ≡ answered (at state time) (Accepted said) details ⌝ }
 {
-    let manager = managed.manager;
-    let sent = managed.outbox;
-    let report = managed.report;
-    let line = state.line;
-    let longer = control_line::push_all(line, sent);
-    state.manager = manager;
-    state.line = longer;
     state.time = time;
-    let details = reporting(report);
     Answered {
         state: state,
-        answer: answer,
+        answer: Answer::Accepted(said),
         details: details,
     }
 }

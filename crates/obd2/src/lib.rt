@@ -2,15 +2,17 @@
 // for the whole of them, "desk" for the side that serves clients.)
 use config::Profiles;
 use config::Settings;
-use control::DongleMessage;
 use control_line::ControlLine;
+use control_line::Taken;
 use desk::Desk;
+use link::Connecting;
 use manager::Manager;
 use poller::Poller;
 use poller::Query;
 use report::Report;
+use rounds::Step;
 
-// what the calls of all three sides share: times that are refused, room on the line, answers put together
+// what the calls of all sides share: times that are refused, room on the line, answers put together
 pub mod answers;
 // a call as a value
 pub mod call;
@@ -26,41 +28,31 @@ pub struct State {
     pub time: u64,
 }
 
-// What a call answers. An answer that hands out bytes has them in the lent area, and the lines' lengths in
-// `Details`.
+// What a call answers.
 pub enum Answer {
     // document 01's number
     Refused(u8),
+    Accepted(Said),
+}
+
+// What an accepted call says, in the words of the side that it is of. An answer that hands out bytes has them in the lent
+// area, and the lines' lengths in `Details`.
+pub enum Said {
     Started,
     // a new client's number
     Client(u32),
     Done,
-    // UNABLE TO CONNECT
-    Unable,
-    // NO DATA
-    NoData,
-    // ?
-    Unknown,
-    // a range's stored reply
-    Range,
-    // a reading of the PID; names Consumed without a wait
-    Reading(u8),
+    Asked(cache::Answer),
     // a reading of the PID and the wait since the ask; names Consumed with it
     Collected(u8, u64),
-    // names Waiting of the PID
-    Waiting(u8),
-    // no control message waits
-    Nothing,
-    Control(DongleMessage),
-    Connected,
-    Failed,
-    Already,
-    Yes,
-    No,
-    // a query, which stands in `Details`
-    Query,
-    // a round's end, and its request count
-    End(u32),
+    // NO DATA
+    GivenUp,
+    Taken(Taken),
+    Connecting(Connecting),
+    // whether a reconnect may be tried
+    Check(bool),
+    // a query, which stands in `Details`, or the round's end
+    Step(Step),
 }
 
 // What stands beside an answer: a reply's lines, the values and notices of a response, a query, a report.

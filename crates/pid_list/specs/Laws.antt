@@ -1,15 +1,15 @@
 -- Sizes, places and indexes: what the proofs of the functions cite.
 use mathlib.Core.List.{List}
-use mathlib.Core.Path.{_≡_}
-use Prim.Native.Nat.{ℕ, _+_, _<_, _≤_}
+use mathlib.Core.Path.{_≡_, refl}
+use Prim.Native.Nat.{ℕ, _<_, _≤_}
 use native.Mathlib.Nat.{mod-lt}
-use native.Mathlib.Numerals.{add-one}
 use native.Mathlib.Omega.{arith}
-use lib.Dec.{ltb}
-use lib.ListN.{length, getD, take, drop, length-take, drop-of-length-le}
-use lib.Seq.{drop-cons, getD-take}
-use borrow.Author.Tests.{ltb-true, ltb-false, eq-eqb, ne-eqb}
+use lib.Dec.{ltb, eqb}
+use lib.ListN.{length, getD, take, length-take}
+use lib.Seq.{getD-take}
+use borrow.Author.Tests.{ltb-true, ltb-false, ne-eqb}
 use Rattle.base.specs.Choice.{cases}
+use Rattle.base.specs.Search.{Search}
 use Rattle.pid_list.specs.Rules.{sizeOf, entries, place, wrap}
 use Rattle.pid_list.specs.declared.PidList.{PidList}
 
@@ -36,19 +36,6 @@ pub wrap-lt : (i n : ℕ) → 0 < n → wrap i n < n
 unfolding wrap
 wrap-lt i n h = rw (ne-eqb n 0 (λ e. omega arith)) (mod-lt i h)
 
--- A search from the front: what is left of it at place i.
-abbrev pub Sought : List ℕ → ℕ → ℕ → Type 0
-Sought xs p i = place xs p ≡ i + place (drop i xs) p
-
-module _ (xs : List ℕ) (p i : ℕ) where
-  pub sought-here : i < length xs → getD xs i 0 ≡ p → Sought xs p i → i ≡ place xs p
-  unfolding place
-  sought-here h e s = let a = rw (drop-cons xs i 0, eq-eqb _ _ e) at s in omega arith
-
-  pub sought-next : i < length xs → (getD xs i 0 ≡ p → ⊥) → Sought xs p i → Sought xs p (i + 1)
-  unfolding place
-  sought-next h e s = let a = rw (drop-cons xs i 0, ne-eqb _ _ e) at s in rw (add-one i) (omega arith)
-
-  pub sought-end : length xs ≤ i → Sought xs p i → place xs p ≡ i
-  unfolding place
-  sought-end h s = let a = rw (drop-of-length-le xs h) at s in omega arith
+pub pid-search : (p : ℕ) → Search (λ x. eqb x p) (λ xs. place xs p)
+unfolding place
+pid-search p = record { none = refl; turn = λ x xs. refl }

@@ -53,7 +53,7 @@ pub fn row(pid: u8) -> usize
 fn find(pids: &[u8], len: usize, pid: u8) -> usize
     ensures { λ r. ⌜ r ≡ place (take len (now (pids .entry))) pid ⌝ }
 {
-    let n = if len < pids.len() { len } else { pids.len() };
+    let n = base::least(len, pids.len());
     let mut i = 0;
     while i < n {
         if pids[i] == pid {

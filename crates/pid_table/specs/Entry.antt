@@ -1,8 +1,9 @@
 -- What each event, and each part of maintenance, makes of a PID's entry: document 01, "PID table (manager)".
 use mathlib.Core.Bool.{Bool, true, false, not, _&&_}
-use Prim.Native.Nat.{ℕ, _+_, _-_}
+use Prim.Native.Nat.{ℕ, _-_}
 use lib.Dec.{ltb, leb, eqb}
 use Rattle.base.specs.Choice.{pick}
+use Rattle.base.specs.Count.{moreOf}
 use Rattle.config.specs.declared.PidPriority.{PidPriority}
 use Rattle.config.specs.declared.PidPriority.the-variants.{Fast, Slow}
 use Rattle.control.specs.Speed.{Speed, untracked, speedOf}
@@ -46,10 +47,6 @@ speed i = pick (i .tracked) (speedOf (i .priority)) untracked
 abbrev pub promotedIf : Bool → PidPriority → PidPriority
 promotedIf test p = pick test Fast p
 
--- A count stops at the largest number of its 32 bits.
-unfoldable pub oneMore : ℕ → ℕ
-oneMore n = pick (ltb n 4294967295) (n + 1) 4294967295
-
 -- Waiting: the waiter time is now. Unknown: tracked Fast. Slow in Interval mode: promoted.
 unfoldable pub waitingOf : ℕ → ℕ → PidInfo → PidInfo
 waitingOf mode now i =
@@ -66,7 +63,7 @@ promotesOf mode threshold (Miss wait) = not (eqb mode 0) && leb threshold wait
 unfoldable pub consumedOf : Bool → ℕ → PidInfo → PidInfo
 consumedOf promotes now i =
     pick (i .tracked)
-    (withConsumed (withPriority i (promotedIf promotes (i .priority))) now (oneMore (i .count)))
+    (withConsumed (withPriority i (promotedIf promotes (i .priority))) now (moreOf (i .count)))
     i
 
 -- Registering the profiles: unwanted PIDs lose their pin; new ones are tracked pinned, consumed now.

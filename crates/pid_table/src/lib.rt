@@ -6,7 +6,7 @@ use control::outbox::Outbox;
 ghost use mathlib.Core.Path.{_≡_};
 ghost use Rattle.control.specs.Outbox.{sendAll};
 ghost use Rattle.control.specs.Told.{sameSpeed, messageOf, toldOf};
-ghost use Rattle.pid_table.specs.Entry.{speed, isFast, promotedIf, oneMore, waitingOf, promotesOf, consumedOf, registeredOf, pastOf, looseOf, idleOf, removedOf, demotesOf, demotedOf, clearedOf, nobody};
+ghost use Rattle.pid_table.specs.Entry.{speed, isFast, promotedIf, waitingOf, promotesOf, consumedOf, registeredOf, pastOf, looseOf, idleOf, removedOf, demotesOf, demotedOf, clearedOf, nobody};
 
 // When something last happened.
 pub enum LastTime {
@@ -70,16 +70,6 @@ pub fn promoted_if(test: bool, priority: PidPriority) -> PidPriority
     if test { PidPriority::Fast } else { priority }
 }
 
-pub fn one_more(count: u32) -> u32
-    ensures { λ r. ⌜ r ≡ oneMore count ⌝ }
-{
-    if count < 4294967295 {
-        count + 1
-    } else {
-        4294967295
-    }
-}
-
 // A client waits for the PID.
 pub fn waiting(info: PidInfo, mode: u8, now: u64) -> PidInfo
     ensures { λ r. ⌜ r ≡ waitingOf mode now info ⌝ }
@@ -126,7 +116,7 @@ pub fn consumed(info: PidInfo, promotes: bool, now: u64) -> PidInfo
         let waiter = info.waiter;
         let priority = info.priority;
         let raised = promoted_if(promotes, priority);
-        let count = one_more(info.count);
+        let count = base::more(info.count);
         PidInfo {
             tracked: info.tracked,
             priority: raised,
@@ -183,13 +173,7 @@ fn past(last: LastTime, limit: u64, now: u64) -> bool
 {
     match last {
         LastTime::Never => true,
-        LastTime::At(time) => {
-            if time < now {
-                limit < now - time
-            } else {
-                false
-            }
-        }
+        LastTime::At(time) => limit < base::elapsed(time, now),
     }
 }
 

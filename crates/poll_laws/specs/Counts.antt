@@ -1,5 +1,5 @@
 -- The first ECU count is kept for good.
-use mathlib.Core.Bool.{true, false}
+use mathlib.Core.Bool.{false}
 use mathlib.Core.List.{List, [], _∷_}
 use mathlib.Core.Path.{_≡_, refl, sym, _∙_}
 use Prim.Native.Nat.{ℕ, _+_, _<_}
@@ -9,9 +9,9 @@ use lib.Seq.{getD-set-same, getD-set-other, set-out, getD-drop}
 use borrow.Author.Tests.{ltb-true, ltb-false, eqb-true, eqb-false, eq-eqb}
 use Rattle.base.specs.Choice.{pick, cases}
 use Rattle.link.specs.Rules.{lossOf}
-use Rattle.rounds.specs.Cases.{result-none, result-due}
+use Rattle.rounds.specs.Cases.{result-due}
 use Rattle.rounds.specs.Result.{keepOf, nothing, teachOf, teachAll, learnOf, linkAfter, isLost, resultOf}
-use Rattle.poller.specs.State.{dueOf, pidsOf}
+use Rattle.poller.specs.State.{pidsOf}
 use Rattle.rounds.specs.declared.Learnt.{Learnt}
 use Rattle.rounds.specs.declared.Lessons.{Lessons}
 use Rattle.rounds.specs.declared.Outcome.{Outcome}
@@ -49,27 +49,22 @@ all-length k (q ∷ qs) ls =
     (r .0 ∙ keep-length (k .counts) q (l .ecu), r .1 ∙ length-set (k .known) q (l .known))
 
 -- Whatever the result, a count that is kept stays.
-pub result-counts : (p : Poller) (t : ℕ) (o : Outcome) (r : ℕ) → (getD (p .counts) r 0 ≡ 0 → ⊥) → getD (resultOf p t o .poller .counts) r 0 ≡ getD (p .counts) r 0
+pub result-counts : (p : Poller) (t : ℕ) (o : Outcome) (r : ℕ) → (getD (p .counts) r 0 ≡ 0 → ⊥) → getD (resultOf p t o .counts) r 0 ≡ getD (p .counts) r 0
 unfolding learnOf
-result-counts p t o r h = cases _ (dueOf (p .round .phase))
-    (λ e. rw (result-due p t o e) (all-kept (record { counts = p .counts; known = p .link .known }) (pidsOf (p .round .due)) (o .learnt) r h))
-    (λ e. rw (result-none p t o e))
+result-counts p t o r h = rw (result-due p t o) (all-kept (record { counts = p .counts; known = p .link .known }) (pidsOf (p .round .due)) (o .learnt) r h)
 
 -- The tables keep their lengths.
 pub result-lengths : (p : Poller) (t : ℕ) (o : Outcome)
-    → (length (resultOf p t o .poller .counts) ≡ length (p .counts)) × (length (resultOf p t o .poller .link .known) ≡ length (p .link .known))
+    → (length (resultOf p t o .counts) ≡ length (p .counts)) × (length (resultOf p t o .link .known) ≡ length (p .link .known))
 unfolding learnOf linkAfter lossOf
 result-lengths p t o =
     let a = all-length (record { counts = p .counts; known = p .link .known }) (pidsOf (p .round .due)) (o .learnt) in
-    cases _ (dueOf (p .round .phase))
-    (λ e. rw (result-due p t o e) (a .0, cases _ (isLost (o .kind)) (λ f. rw f (a .1)) (λ f. rw f (a .1))))
-    (λ e. rw (result-none p t o e) (refl, refl))
+    rw (result-due p t o) (a .0, cases _ (isLost (o .kind)) (λ f. rw f (a .1)) (λ f. rw f (a .1)))
 
 -- A result loses the connection or leaves it.
-pub result-connection : (p : Poller) (t : ℕ) (o : Outcome) → dueOf (p .round .phase) ≡ true
-    → resultOf p t o .poller .link .connected ≡ pick (isLost (o .kind)) false (p .link .connected)
+pub result-connection : (p : Poller) (t : ℕ) (o : Outcome) → resultOf p t o .link .connected ≡ pick (isLost (o .kind)) false (p .link .connected)
 unfolding linkAfter lossOf
-result-connection p t o e = rw (result-due p t o e) (cases _ (isLost (o .kind)) (λ f. rw f) (λ f. rw f))
+result-connection p t o = rw (result-due p t o) (cases _ (isLost (o .kind)) (λ f. rw f) (λ f. rw f))
 
 -- Where the counts that come in are bytes, so are those that are kept.
 keep-byte : (counts : List ℕ) (q c r : ℕ) → c < 256 → getD counts r 0 < 256 → getD (keepOf counts q c) r 0 < 256
@@ -92,8 +87,6 @@ all-bytes k (q ∷ qs) ls h b r =
     (λ i. rw (getD-drop 1 ls i nothing) (b (1 + i))) r
 
 pub result-bytes : (p : Poller) (t : ℕ) (o : Outcome) → ((r : ℕ) → getD (p .counts) r 0 < 256) → ((i : ℕ) → getD (o .learnt) i nothing .ecu < 256)
-    → (r : ℕ) → getD (resultOf p t o .poller .counts) r 0 < 256
+    → (r : ℕ) → getD (resultOf p t o .counts) r 0 < 256
 unfolding learnOf
-result-bytes p t o h b r = cases _ (dueOf (p .round .phase))
-    (λ e. rw (result-due p t o e) (all-bytes (record { counts = p .counts; known = p .link .known }) (pidsOf (p .round .due)) (o .learnt) h b r))
-    (λ e. rw (result-none p t o e) (h r))
+result-bytes p t o h b r = rw (result-due p t o) (all-bytes (record { counts = p .counts; known = p .link .known }) (pidsOf (p .round .due)) (o .learnt) h b r)

@@ -9,10 +9,9 @@ use Rattle.pid_list.specs.Robin.{next-sound}
 use Rattle.pid_list.specs.Rules.{entries, nextOf as nextPid}
 use Rattle.plan.specs.Steps.{takeOf}
 use Rattle.plan.specs.declared.Chunk.{Chunk}
-use Rattle.rounds.specs.Cases.{slow-not, slow-sent, slow-unsent, first-some, first-none, multi-end, multi-some, result-none, result-due}
+use Rattle.rounds.specs.Cases.{slow-not, slow-sent, slow-unsent, first-some, first-none, multi-end, multi-some, result-due}
 use Rattle.rounds.specs.Next.{issueOf, endOf, slowDue, slowOf, firstOf, multiOf, stepIn, nextOf}
 use Rattle.rounds.specs.Result.{resultOf}
-use Rattle.poller.specs.State.{dueOf}
 use Rattle.rounds.specs.declared.Outcome.{Outcome}
 use Rattle.poller.specs.declared.Phase.{Phase}
 use Rattle.poller.specs.declared.Phase.the-variants.{Closed, First, FastDue, Test, SlowDue, Multi, MultiDue, Over}
@@ -107,13 +106,13 @@ multi-kept p = cases _ (eqb (takeOf (p .plan) .chunk .count) 0)
     })))
 
 step-kept : (x : Phase) (p : Poller) (t : ℕ) → Kept p (stepIn x p t .poller)
-step-kept Closed p t = same p
+step-kept Closed p t = end-kept p p (same p)
 step-kept First p t = first-kept p t
-step-kept FastDue p t = same p
+step-kept FastDue p t = end-kept p p (same p)
 step-kept Test p t = slow-kept p t
-step-kept SlowDue p t = same p
+step-kept SlowDue p t = end-kept p p (same p)
 step-kept Multi p t = multi-kept p
-step-kept MultiDue p t = same p
+step-kept MultiDue p t = end-kept p p (same p)
 step-kept Over p t = end-kept p p (same p)
 
 pub next-kept : (p : Poller) (t : ℕ) → Kept p (nextOf p t .poller)
@@ -128,7 +127,5 @@ pub record Untouched (p r : Poller) : Type 0 where
   pub settings : r .settings ≡ p .settings
   pub plan : r .plan ≡ p .plan
 
-pub result-untouched : (p : Poller) (t : ℕ) (o : Outcome) → Untouched p (resultOf p t o .poller)
-result-untouched p t o = cases _ (dueOf (p .round .phase))
-    (λ e. rw (result-due p t o e) (record { fast = refl; slow = refl; requests = refl; settings = refl; plan = refl }))
-    (λ e. rw (result-none p t o e) (record { fast = refl; slow = refl; requests = refl; settings = refl; plan = refl }))
+pub result-untouched : (p : Poller) (t : ℕ) (o : Outcome) → Untouched p (resultOf p t o)
+result-untouched p t o = rw (result-due p t o) (record { fast = refl; slow = refl; requests = refl; settings = refl; plan = refl })

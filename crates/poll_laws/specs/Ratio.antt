@@ -1,19 +1,19 @@
 -- Ratio mode: how fast requests count, and how soon the slow test passes.
 use mathlib.Core.Bool.{Bool, true, false, _&&_}
 use mathlib.Core.Path.{_≡_, refl, ap, sym, _∙_}
-use Prim.Native.Nat.{ℕ, zero, suc, _+_, _<_, _≤_, max}
+use Prim.Native.Nat.{ℕ, zero, suc, _+_, _≤_, max}
 use native.Mathlib.Omega.{arith}
-use lib.Dec.{ltb, leb}
-use borrow.Author.Tests.{ltb-false, leb-false, le-leb, ne-eqb}
+use lib.Dec.{leb}
+use borrow.Author.Tests.{leb-false, le-leb, ne-eqb}
 use Rattle.base.specs.Choice.{pick, cases}
+use Rattle.base.specs.Count.{moreOf, more-is}
 use Rattle.config.specs.declared.Settings.{Settings}
 use Rattle.pid_list.specs.Rules.{nextOf as nextPid}
 use Rattle.poll_laws.specs.Keeps.{result-untouched}
-use Rattle.rounds.specs.Cases.{slow-not, slow-sent, slow-unsent, first-some, result-due}
-use Rattle.rounds.specs.Next.{moreOf, issueOf, endOf, slowDue, slowOf, stepIn, nextOf}
+use Rattle.rounds.specs.Cases.{slow-not, slow-sent, slow-unsent, first-some, result-due, next-in}
+use Rattle.rounds.specs.Next.{issueOf, endOf, slowDue, slowOf, nextOf}
 use Rattle.rounds.specs.Result.{roundAfter, resultOf}
 use Rattle.rounds.specs.declared.Outcome.{Outcome}
-use Rattle.poller.specs.declared.Phase.{Phase}
 use Rattle.poller.specs.declared.Phase.the-variants.{First, FastDue, Test}
 use Rattle.poller.specs.declared.Poller.{Poller}
 
@@ -38,48 +38,36 @@ ratio-test p t m = slow-requests p t ∙ rw (ne-eqb (p .settings .mode) 0 m)
 -- The three calls of a single round with a fast PID: the fast query, its result, the slow test.
 pub next-fast : (p : Poller) (t : ℕ) → p .round .phase ≡ First → nextPid (p .fast) .found ≡ true
     → (nextOf p t .poller .round .phase ≡ FastDue) × (nextOf p t .poller .requests ≡ moreOf (p .requests)) × (nextOf p t .poller .settings ≡ p .settings)
-unfolding nextOf issueOf
-next-fast p t e some = rw (ap (λ (x : Phase). stepIn x p t) e ∙ first-some p t some) (refl, refl, refl)
+unfolding issueOf
+next-fast p t e some = rw (next-in p t e ∙ first-some p t some) (refl, refl, refl)
 
-pub result-fast : (p : Poller) (t : ℕ) (o : Outcome) → p .round .phase ≡ FastDue → resultOf p t o .poller .round .phase ≡ Test
+pub result-fast : (p : Poller) (t : ℕ) (o : Outcome) → p .round .phase ≡ FastDue → resultOf p t o .round .phase ≡ Test
 unfolding roundAfter
-result-fast p t o e = rw (result-due p t o (rw e), e)
-
-pub next-test : (p : Poller) (t : ℕ) → p .round .phase ≡ Test → nextOf p t ≡ slowOf p t
-unfolding nextOf
-next-test p t e = ap (λ (x : Phase). stepIn x p t) e
+result-fast p t o e = rw (result-due p t o, e)
 
 -- In Ratio mode the fast requests rise by one or go to 0.
 pub ratio-round : (p : Poller) (t u v : ℕ) (o : Outcome) → p .round .phase ≡ First → nextPid (p .fast) .found ≡ true → (p .settings .mode ≡ 0 → ⊥)
-    → nextOf (resultOf (nextOf p t .poller) u o .poller) v .poller .requests ≡ requestsAfter (p .settings .ratio) (p .requests)
+    → nextOf (resultOf (nextOf p t .poller) u o) v .poller .requests ≡ requestsAfter (p .settings .ratio) (p .requests)
 ratio-round p t u v o first some m =
     let q = nextOf p t .poller in
-    let r = resultOf q u o .poller in
+    let r = resultOf q u o in
     let a = next-fast p t first some in
     let k = result-untouched q u o in
     let s : r .settings ≡ p .settings = k .settings ∙ a .2 in
     let n : r .requests ≡ moreOf (p .requests) = k .requests ∙ a .1 in
-    rw (next-test r v (result-fast q u o (a .0)), ratio-test r v (λ z. m (sym (ap (λ (x : Settings). x .mode) s) ∙ z)), s, n)
+    rw (next-in r v (result-fast q u o (a .0)), ratio-test r v (λ z. m (sym (ap (λ (x : Settings). x .mode) s) ∙ z)), s, n)
 
 -- Whether the test passes in one of n such rounds on end.
 unfoldable pub passesWithin : ℕ → ℕ → ℕ → Bool
 passesWithin zero ratio r = false
 passesWithin (suc n) ratio r = pick (leb ratio (moreOf r)) true (passesWithin n ratio (requestsAfter ratio r))
 
-more-least : (r ratio : ℕ) → ratio ≤ 4294967295 → ratio ≤ r + 1 → ratio ≤ moreOf r
-unfolding moreOf
-more-least r ratio h k = cases _ (ltb r 4294967295) (λ e. rw e k) (λ e. let a = ltb-false r 4294967295 e in rw e (omega arith))
-
-more-below : (r ratio : ℕ) → ratio ≤ 4294967295 → moreOf r < ratio → moreOf r ≡ r + 1
-unfolding moreOf
-more-below r ratio h k = cases _ (ltb r 4294967295) (λ e. rw e) (λ e. let a = ltb-false r 4294967295 e in let b = rw e at k in omega arith)
-
 soon : (n ratio r : ℕ) → ratio ≤ 4294967295 → ratio ≤ r + suc n → passesWithin (suc n) ratio r ≡ true
 unfolding passesWithin
-soon zero ratio r h k = rw (le-leb ratio (moreOf r) (more-least r ratio h (omega arith)))
+soon zero ratio r h k = rw (le-leb ratio (moreOf r) (omega (arith, more-is r)))
 soon (suc n) ratio r h k = cases _ (leb ratio (moreOf r))
     (λ e. rw e)
-    (λ e. let a = more-below r ratio h (leb-false ratio (moreOf r) e) in rw e (soon n ratio (moreOf r) h (omega arith)))
+    (λ e. let a = leb-false ratio (moreOf r) e in rw e (soon n ratio (moreOf r) h (omega (arith, more-is r))))
 
 -- The test passes within max(1, ratio) rounds. A ratio has 32 bits.
 pub ratio-passes : (ratio r : ℕ) → ratio ≤ 4294967295 → passesWithin (max 1 ratio) ratio r ≡ true

@@ -1,4 +1,4 @@
--- A round that is open ends: each `next` ends it or issues one of the queries that are left to it, and no result adds any.
+-- A round ends: each `next` ends it or issues one of the queries that are left to it, and no result adds any.
 use mathlib.Core.Bool.{Bool, true, false, _&&_}
 use mathlib.Core.List.{List, [], _∷_, _++_}
 use mathlib.Core.Path.{_≡_, refl, ap}
@@ -7,6 +7,7 @@ use native.Mathlib.Omega.{arith}
 use lib.Dec.{eqb}
 use lib.ListN.{length, length-append}
 use Rattle.base.specs.Choice.{cases}
+use Rattle.base.specs.Count.{moreOf}
 use Rattle.config.specs.declared.Settings.{Settings}
 use Rattle.link.specs.Rules.{isNo}
 use Rattle.pid_list.specs.Laws.{size-le, size-entries}
@@ -17,7 +18,7 @@ use Rattle.plan.specs.Whole.{round-length}
 use Rattle.poller.specs.Calls.{multiAllowed, beginOf}
 use Rattle.poller.specs.Cases.{begin-over, begin-multi, begin-single}
 use Rattle.rounds.specs.Cases.{slow-not, slow-sent, slow-unsent, first-some, first-none, multi-end, multi-some, result-due}
-use Rattle.rounds.specs.Next.{moreOf, issueOf, endOf, slowDue, slowOf, firstOf, multiOf, stepIn, nextOf}
+use Rattle.rounds.specs.Next.{issueOf, endOf, slowDue, slowOf, firstOf, multiOf, stepIn, nextOf}
 use Rattle.rounds.specs.Result.{isLost, endsMulti, phaseAfter, roundAfter, resultOf}
 use Rattle.poller.specs.State.{openOf, dueOf}
 use Rattle.rounds.specs.declared.Outcome.{Outcome}
@@ -25,7 +26,7 @@ use Rattle.poller.specs.declared.Phase.{Phase}
 use Rattle.poller.specs.declared.Phase.the-variants.{Closed, First, FastDue, Test, SlowDue, Multi, MultiDue, Over}
 use Rattle.poller.specs.declared.Poller.{Poller}
 use Rattle.rounds.specs.declared.Step.{Step}
-use Rattle.rounds.specs.declared.Step.the-variants.{Ask, End, Refused}
+use Rattle.rounds.specs.declared.Step.the-variants.{Ask, End}
 use Rattle.rounds.specs.declared.Stepped.{Stepped}
 
 -- The queries that a round may still issue, at most.
@@ -81,44 +82,44 @@ multi-stride p =
     (λ e. rw (multi-end p e) (end-stride p p _ refl))
     (λ e. rw (multi-some p e) (issued refl refl refl (let l = ap length (rw e at (take-left (p .plan))) in omega arith)))
 
-step-stride : (x : Phase) (p : Poller) (t : ℕ) → openOf x ≡ true → dueOf x ≡ false → Stride p (queriesIn x (length (leftOf (p .plan)))) (stepIn x p t)
-step-stride Closed p t a b = absurd (let z : _≡_ {A = ℕ} 0 1 = cc in omega arith)
-step-stride First p t a b = first-stride p t
-step-stride FastDue p t a b = absurd (let z : _≡_ {A = ℕ} 0 1 = cc in omega arith)
-step-stride Test p t a b = slow-stride p t
-step-stride SlowDue p t a b = absurd (let z : _≡_ {A = ℕ} 0 1 = cc in omega arith)
-step-stride Multi p t a b = multi-stride p
-step-stride MultiDue p t a b = absurd (let z : _≡_ {A = ℕ} 0 1 = cc in omega arith)
-step-stride Over p t a b = end-stride p p 0 refl
+step-stride : (x : Phase) (p : Poller) (t : ℕ) → Stride p (queriesIn x (length (leftOf (p .plan)))) (stepIn x p t)
+step-stride Closed p t = end-stride p p _ refl
+step-stride First p t = first-stride p t
+step-stride FastDue p t = end-stride p p _ refl
+step-stride Test p t = slow-stride p t
+step-stride SlowDue p t = end-stride p p _ refl
+step-stride Multi p t = multi-stride p
+step-stride MultiDue p t = end-stride p p _ refl
+step-stride Over p t = end-stride p p _ refl
 
-pub next-stride : (p : Poller) (t : ℕ) → openOf (p .round .phase) ≡ true → dueOf (p .round .phase) ≡ false → Stride p (queriesLeft p) (nextOf p t)
+pub next-stride : (p : Poller) (t : ℕ) → Stride p (queriesLeft p) (nextOf p t)
 unfolding nextOf
-next-stride p t a b = step-stride (p .round .phase) p t a b
+next-stride p t = step-stride (p .round .phase) p t
 
--- A result that is due leaves the round open, no result due, no more queries than before, and the count of those issued.
+-- A result leaves the round open or closed as it was, no result due, no more queries than before, and the count of those issued.
 pub record Settled (p r : Poller) : Type 0 where
-  pub stands : openOf (r .round .phase) ≡ true
+  pub stands : openOf (r .round .phase) ≡ openOf (p .round .phase)
   pub taken : dueOf (r .round .phase) ≡ false
   pub fewer : queriesLeft r ≤ queriesLeft p
   pub count : r .round .issued ≡ p .round .issued
 
-phase-settled : (x : Phase) (over : Bool) (n : ℕ) → dueOf x ≡ true
-    → (openOf (phaseAfter x over) ≡ true) × (dueOf (phaseAfter x over) ≡ false) × (queriesIn (phaseAfter x over) n ≤ queriesIn x n)
-phase-settled Closed over n e = absurd (let z : _≡_ {A = ℕ} 0 1 = cc in omega arith)
-phase-settled First over n e = absurd (let z : _≡_ {A = ℕ} 0 1 = cc in omega arith)
-phase-settled FastDue over n e = (refl, refl, omega arith)
-phase-settled Test over n e = absurd (let z : _≡_ {A = ℕ} 0 1 = cc in omega arith)
-phase-settled SlowDue over n e = (refl, refl, omega arith)
-phase-settled Multi over n e = absurd (let z : _≡_ {A = ℕ} 0 1 = cc in omega arith)
-phase-settled MultiDue true n e = (refl, refl, omega arith)
-phase-settled MultiDue false n e = (refl, refl, omega arith)
-phase-settled Over over n e = absurd (let z : _≡_ {A = ℕ} 0 1 = cc in omega arith)
+phase-settled : (x : Phase) (over : Bool) (n : ℕ)
+    → (openOf (phaseAfter x over) ≡ openOf x) × (dueOf (phaseAfter x over) ≡ false) × (queriesIn (phaseAfter x over) n ≤ queriesIn x n)
+phase-settled Closed over n = (refl, refl, omega arith)
+phase-settled First over n = (refl, refl, omega arith)
+phase-settled FastDue over n = (refl, refl, omega arith)
+phase-settled Test over n = (refl, refl, omega arith)
+phase-settled SlowDue over n = (refl, refl, omega arith)
+phase-settled Multi over n = (refl, refl, omega arith)
+phase-settled MultiDue true n = (refl, refl, omega arith)
+phase-settled MultiDue false n = (refl, refl, omega arith)
+phase-settled Over over n = (refl, refl, omega arith)
 
-pub result-settled : (p : Poller) (t : ℕ) (o : Outcome) → dueOf (p .round .phase) ≡ true → Settled p (resultOf p t o .poller)
+pub result-settled : (p : Poller) (t : ℕ) (o : Outcome) → Settled p (resultOf p t o)
 unfolding roundAfter
-result-settled p t o e =
-    let s = phase-settled (p .round .phase) (endsMulti (p .round .due .count) (isNo (o .features .multi)) (isLost (o .kind))) (length (leftOf (p .plan))) e in
-    rw (result-due p t o e) (record { stands = s .0; taken = s .1; fewer = s .2; count = refl })
+result-settled p t o =
+    let s = phase-settled (p .round .phase) (endsMulti (p .round .due .count) (isNo (o .features .multi)) (isLost (o .kind))) (length (leftOf (p .plan))) in
+    rw (result-due p t o) (record { stands = s .0; taken = s .1; fewer = s .2; count = refl })
 
 -- ---- the bound
 
@@ -132,40 +133,39 @@ pub record Turn : Type 0 where
 abbrev pub orEnds : Step → Bool → Bool
 orEnds Ask later = later
 orEnds (End k) later = true
-orEnds Refused later = false
 
 unfoldable pub endsWithin : List Turn → Poller → Bool
 endsWithin [] p = false
 endsWithin (u ∷ us) p =
-    orEnds (nextOf p (u .asked) .step) (endsWithin us (resultOf (nextOf p (u .asked) .poller) (u .came) (u .outcome) .poller))
+    orEnds (nextOf p (u .asked) .step) (endsWithin us (resultOf (nextOf p (u .asked) .poller) (u .came) (u .outcome)))
 
 -- The poller after a turn.
 abbrev pub turned : Turn → Poller → Poller
-turned u p = resultOf (nextOf p (u .asked) .poller) (u .came) (u .outcome) .poller
+turned u p = resultOf (nextOf p (u .asked) .poller) (u .came) (u .outcome)
 
 turn-ends : (u : Turn) (us : List Turn) (p : Poller) (n : ℕ) → Stride p n (nextOf p (u .asked))
-    → (openOf (turned u p .round .phase) ≡ true → dueOf (turned u p .round .phase) ≡ false → queriesLeft (turned u p) < n → endsWithin us (turned u p) ≡ true)
+    → (queriesLeft (turned u p) < n → endsWithin us (turned u p) ≡ true)
     → orEnds (nextOf p (u .asked) .step) (endsWithin us (turned u p)) ≡ true
 turn-ends u us p n (ended e f) later = rw e
 turn-ends u us p n (issued e f m g) later =
-    let s = result-settled (nextOf p (u .asked) .poller) (u .came) (u .outcome) f in
-    rw e (later (s .stands) (s .taken) (let k = s .fewer in omega arith))
+    let s = result-settled (nextOf p (u .asked) .poller) (u .came) (u .outcome) .fewer in
+    rw e (later (omega arith))
 
 -- Whatever the times and the results: one more turn than there are queries left ends the round.
-pub round-ends : (us : List Turn) (p : Poller) → openOf (p .round .phase) ≡ true → dueOf (p .round .phase) ≡ false → queriesLeft p < length us → endsWithin us p ≡ true
+pub round-ends : (us : List Turn) (p : Poller) → queriesLeft p < length us → endsWithin us p ≡ true
 unfolding endsWithin
-round-ends [] p a b h = absurd (omega arith)
-round-ends (u ∷ us) p a b h = turn-ends u us p (queriesLeft p) (next-stride p (u .asked) a b) (λ x y z. round-ends us (turned u p) x y (omega arith))
+round-ends [] p h = absurd (omega arith)
+round-ends (u ∷ us) p h = turn-ends u us p (queriesLeft p) (next-stride p (u .asked)) (λ z. round-ends us (turned u p) (omega arith))
 
 -- A round that begins has at most 512 queries, so at most 513 turns.
-pub begin-left : (p : Poller) (s : Settings) → openOf (p .round .phase) ≡ false → length (p .fast .pids) ≡ 256 → length (p .slow .pids) ≡ 256
-    → (openOf (beginOf p s .poller .round .phase) ≡ true) × (dueOf (beginOf p s .poller .round .phase) ≡ false) × (queriesLeft (beginOf p s .poller) ≤ 512)
-begin-left p s closed f g =
+pub begin-left : (p : Poller) (s : Settings) → length (p .fast .pids) ≡ 256 → length (p .slow .pids) ≡ 256
+    → (openOf (beginOf p s .round .phase) ≡ true) × (dueOf (beginOf p s .round .phase) ≡ false) × (queriesLeft (beginOf p s) ≤ 512)
+begin-left p s f g =
     cases _ (p .link .connected)
     (λ e. cases _ (multiAllowed (s .multi) (isNo (p .link .features .multi)))
-    (λ m. rw (begin-multi p s closed e m) (refl, refl, most))
-    (λ m. rw (begin-single p s closed e m) (refl, refl, omega arith)))
-    (λ e. rw (begin-over p s closed e) (refl, refl, omega arith))
+    (λ m. rw (begin-multi p s e m) (refl, refl, most))
+    (λ m. rw (begin-single p s e m) (refl, refl, omega arith)))
+    (λ e. rw (begin-over p s e) (refl, refl, omega arith))
   where
     most : length (leftOf (planOf (p .fast) (p .slow) (p .counts) (p .link .known) (s .maxpids))) ≤ 512
     most =

@@ -1,4 +1,3 @@
 pub mod State
-pub mod Numbers
 pub mod Calls
 pub mod Cases

@@ -1,6 +1,7 @@
-// The poller's state, the Rust's PollingState, and the calls that are taken when no round is open. The steps of a
+// The poller's state, the Rust's PollingState, and the calls that the box takes when no round is open. The steps of a
 // round are in `rounds`.
 use config::Settings;
+use link::Connecting;
 use link::Link;
 use pid_list::PidList;
 use plan::Plan;
@@ -57,38 +58,16 @@ pub struct Poller {
     pub round: Round,
 }
 
-// Whether a call was taken. One made outside its condition changes nothing.
-pub enum Said {
-    Done,
-    Refused,
-}
-
-pub struct Changed {
-    pub poller: Poller,
-    pub said: Said,
-}
-
-pub enum Connecting {
-    Connected,
-    Failed,
-    Already,
-    Refused,
-}
-
+// The poller after an outcome of connecting, and what the link says to it.
 pub struct Linked {
     pub poller: Poller,
     pub said: Connecting,
 }
 
-pub enum Check {
-    Yes,
-    No,
-    Refused,
-}
-
+// The poller after a reconnect check, and whether one may be tried.
 pub struct Checked {
     pub poller: Poller,
-    pub said: Check,
+    pub yes: bool,
 }
 
 pub struct Lists {

@@ -1,76 +1,42 @@
-// The box's calls of the poller: what they share, and the control messages.
+// The box's call that takes a control message. The time is not tested here: `dispatch::call` does that before, and is the
+// box's door.
 use control_line::Taken;
-use obd2::Answer;
 use obd2::Answered;
-use obd2::Details;
+use obd2::Said;
 use obd2::State;
 use obd2::answers;
 use poller::Poller;
-ghost use mathlib.Core.List.{[], _∷_};
 ghost use mathlib.Core.Path.{_≡_};
-ghost use Rattle.base.specs.Refusal.{firstOf};
-ghost use Rattle.control_line.specs.Ring.{takeOf};
-ghost use Rattle.obd2.specs.Answers.{numberIn, valuesIn, valuesUnless};
-ghost use Rattle.obd2.specs.Calls.{takeAnswer, takeControlOf};
-ghost use Rattle.obd2.specs.Refusals.{badTimeAfter, closedRefusal};
-ghost use Rattle.obd2.specs.State.{at, withPoller, answered};
+ghost use Rattle.obd2.specs.Call.{takeControl};
+ghost use Rattle.obd2.specs.Done.{listing};
+ghost use Rattle.obd2.specs.History.{inTime};
 
-// The refusal of a call, 0 for none: 1 for its time, else its number where the round stands wrong for it.
-pub fn refusal_of(last: u64, time: u64, number: u8, wrong: bool) -> u8
-    ensures { λ r. ⌜ r ≡ firstOf ((1, badTimeAfter last time) ∷ (number, wrong) ∷ []) ⌝ }
+// The poller after what was taken: a message goes into its lists.
+fn listing(poller: Poller, taken: Taken) -> Poller
+    ensures { λ r. ⌜ r ≡ listing poller taken ⌝ }
 {
-    if answers::bad_time(last, time) {
-        return 1;
-    }
-    if wrong {
-        return number;
-    }
-    0
-}
-
-// An accepted call: the poller as the call left it, and the call's time.
-pub fn accepted(
-    mut state: State,
-    poller: Poller,
-    time: u64,
-    answer: Answer,
-    details: Details,
-) -> Answered
-    ensures { λ r. ⌜ r ≡ answered (at (withPoller state poller) time) answer details ⌝ }
-{
-    state.poller = poller;
-    state.time = time;
-    Answered {
-        state: state,
-        answer: answer,
-        details: details,
+    match taken {
+        Taken::Message(message) => poller::calls::apply(poller, message),
+        Taken::Nothing => poller,
     }
 }
 
 // The control message that has waited longest goes to the poller.
 pub fn take_control(mut state: State, time: u64) -> Answered
-    ensures { λ r. ⌜ r ≡ takeControlOf state time ⌝ }
-    ensures { λ r. ⌜ numberIn (r .answer) ≡ closedRefusal state time ⌝ }
-    ensures { λ r. ⌜ valuesIn (r .answer) ≡ valuesUnless (closedRefusal state time) (takeAnswer (takeOf (state .line) .taken)) ⌝ }
+    ensures { λ r. ⌜ r ≡ inTime state (takeControl time) ⌝ }
 {
     let poller = state.poller;
     let round = poller.round;
-    let refusal = refusal_of(state.time, time, 12, poller::open(round));
-    if refusal != 0 {
-        return answers::refuse(state, refusal);
+    if poller::open(round) {
+        return answers::refuse(state, 12);
     }
     let line = state.line;
     let shorter = control_line::take(line);
     let left = shorter.line;
     let taken = shorter.taken;
+    let listed = listing(poller, taken);
     state.line = left;
+    state.poller = listed;
     let details = answers::no_details();
-    match taken {
-        Taken::Message(message) => {
-            let applied = poller::calls::apply(poller, message);
-            let listed = applied.poller;
-            accepted(state, listed, time, Answer::Control(message), details)
-        }
-        Taken::Nothing => accepted(state, poller, time, Answer::Nothing, details),
-    }
+    answers::accept(state, time, Said::Taken(taken), details)
 }

@@ -3,41 +3,27 @@
 --
 -- What the words mean, each read from the calls and their answers:
 --   the manager's Fast and Slow PIDs              `readAfter`, `tracked`          agreement/specs/Claim.antt
---   connection, settings, rounds, asked           `read`, `rounds`, `Steady`      round_robin/specs/Claim.antt
---   registered, replies since, handed, deliveries `here`, `pending`, `newest`     readings/specs/Claim.antt
+--   connection, settings, rounds, asked           `read`, `rounds`, `Lasting`     round_robin/specs/Claim.antt
+--   registered, replies since, handed, deliveries `Figures`, `hands` of `Deed`    readings/specs/Claim.antt
 -- Of the box itself only the poller's two lists are looked at, and which control messages wait.
-use mathlib.Core.Bool.{true, false}
+use mathlib.Core.Bool.{false}
 use mathlib.Core.List.{List, _++_}
 use mathlib.Core.Path.{_≡_}
 use Prim.Native.Nat.{ℕ, _≤_}
-use lib.ListN.{length, replicate}
+use lib.ListN.{length}
 use Rattle.config.specs.declared.Profiles.{Profiles}
 use Rattle.config.specs.declared.Settings.{Settings}
-use Rattle.control_line.specs.Ring.{waiting}
 use Rattle.pid_list.specs.Rules.{entries}
 use Rattle.rounds.specs.declared.Outcome.{Outcome}
-use Rattle.obd2.specs.Calls.{startOf}
-use Rattle.obd2.specs.History.{Call, takeControl, Calls, run, happened}
-use Rattle.obd2.specs.declared.State.{State}
-use Rattle.agreement.specs.Claim.{OfRound, takeAll, boxAfter, AgreementAfter, ending}
+use Rattle.obd2.specs.Call.{Call, Calls}
+use Rattle.obd2.specs.History.{startOf, run, happened}
+use Rattle.agreement.specs.Claim.{OfRound, taking, takeAll, boxAfter, AgreementAfter, ending}
 use Rattle.readings.specs.Claim.{Readings}
-use Rattle.round_robin.specs.Claim.{Steady, openOver, rounds, Asked, sofar, there, read}
+use Rattle.round_robin.specs.Claim.{openOver, rounds, Asked, sofar, there, read, LastingSince}
 
 -- The list of calls, its round's end and the waiting messages taken, as one list.
-abbrev pub taking : State → List Call
-taking s = replicate (length (waiting (s .line))) (takeControl (s .time))
-
 abbrev pub settling : ℕ → Settings → Profiles → List Call → List Call → List Call
 settling t st ps cs ds = cs ++ (ds ++ taking (run (boxAfter t st ps cs) ds))
-
--- "as long as the connection stays up, every round is a single one run to its end, no further control message is
--- taken and no setting changed": of the calls `cs` after the list `before`. No round is open in between, and a
--- ratio has 32 bits.
-pub record Lasting (t : ℕ) (st : Settings) (ps : Profiles) (before cs : List Call) : Type 0 where
-  pub closed : openOver false (sofar t st ps before) ≡ false
-  pub up : read t st ps before .up ≡ true
-  pub fits : read t st ps before .settings .ratio ≤ 4294967295
-  pub steady : Steady (read t st ps before) (happened (there t st ps before) cs)
 
 -- `ds` are next and result calls after which the round that the list `cs` left open is over.
 pub record Ending (t : ℕ) (st : Settings) (ps : Profiles) (cs ds : List Call) : Type 0 where
@@ -56,9 +42,12 @@ pub record Demand : Type 0 where
       → (there t st ps (settling t st ps cs ds) ≡ takeAll (run (boxAfter t st ps cs) ds))
       × Calls (settling t st ps cs ds)
       × (openOver false (sofar t st ps (settling t st ps cs ds)) ≡ false)
-  -- "each listed PID is asked within a stated number of rounds": the numbers are in `Asked`
-  pub asked : (t : ℕ) (st : Settings) (ps : Profiles) (before cs : List Call) → Calls before → Lasting t st ps before cs
+  -- each listed PID is asked within a stated number of rounds, the numbers are in `Asked`, "while the connection stays up,
+  -- every round is a single one run to its end and no further control message is taken nor setting changed": `Lasting`,
+  -- of the calls `cs` after the list `before`
+  pub asked : (t : ℕ) (st : Settings) (ps : Profiles) (before cs : List Call) → Calls before → LastingSince t st ps before cs
       → let s = there t st ps before in Asked (entries (s .poller .fast)) (entries (s .poller .slow)) (read t st ps before .settings) (rounds (happened s cs))
-  -- "An accepted cache ask hands out a reading exactly when a reply for its PID came since that client registered or
-  -- was last handed one; it is the newest such reply, and no delivery is handed out twice."
+  -- "An accepted cache ask hands out a reading exactly when a reply for its PID came since that client registered or, if
+  -- later, was last handed one for it; every reading handed out is the newest such reply, and no client is handed one
+  -- delivery twice."
   pub readings : (t : ℕ) (st : Settings) (ps : Profiles) (cs : List Call) → Calls cs → Readings (happened (startOf t st ps .state) cs)

@@ -1,9 +1,8 @@
 pub mod Claim
-pub mod Seen
-pub mod Timely
-pub mod Others
-pub mod Desk
 pub mod Places
+pub mod Seen
+pub mod Desk
+pub mod Calls
 pub mod Handed
 pub mod Theorem
 pub mod Witness

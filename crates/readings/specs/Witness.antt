@@ -2,7 +2,7 @@
 -- registers and asks for PID 0Ch before a reply came, collects it when it has come, and is handed the next one at once.
 use mathlib.Core.Bool.{true}
 use mathlib.Core.List.{List, [], _∷_, _++_, map}
-use mathlib.Core.Path.{_≡_, refl}
+use mathlib.Core.Path.{_≡_, refl, ap, _∙_}
 use Prim.Native.Nat.{ℕ, _<_}
 use lib.Dec.{ltb}
 use lib.ListN.{getD}
@@ -11,10 +11,10 @@ use Rattle.ascii.specs.Chars.{between, upper, hexValue}
 use Rattle.base.specs.Each.{someOf}
 use Rattle.base.specs.Refusal.{firstOf}
 use Rattle.base.specs.Table.{at}
-use Rattle.cache.specs.Rules.{commandStep, stepOf, answerOf, handedOf, afterAsk, busy}
+use Rattle.cache.specs.declared.Answer.the-variants.{Reading, Waiting}
+use Rattle.cache.specs.Rules.{commandStep, stepOf, answerOf, handedOf, filledBy, afterAsk, busy}
 use Rattle.clients.specs.Rules.{newcomer, placeOf, markedOf, takenOf, waitingOf, idledOf, findOf, registeredOf, freshIn}
 use Rattle.command.specs.Classify.{stripped, sameText, rangeTexts, indexOf, pidOf, commandOf}
-use Rattle.command.specs.declared.Command.the-variants as commands
 use Rattle.config.specs.Blank.{noProfiles}
 use Rattle.config.specs.Defaults.{defaultSettings}
 use Rattle.config.specs.InForce.{inForce}
@@ -22,13 +22,13 @@ use Rattle.control.specs.Told.{toldOf}
 use Rattle.control.specs.Outbox.{emptyOf, sendAll, messages}
 use Rattle.control_line.specs.Ring.{emptyLine, freeOf, pushAllOf}
 use Rattle.delivery.specs.Laws.{arrivesIn, newestIn}
-use Rattle.delivery.specs.Rules.{risingFrom, over, unfit, deliverOf, turnOf, turnsOf, responseOf}
-use Rattle.delivery.specs.Rules.{responseRefusal as deskResponseRefusal}
+use Rattle.delivery.specs.Rules.{risingFrom, over, unfit, deliverOf, turnOf, turnsOf, responseRefusal, responseOf}
 use Rattle.desk.specs.Rules.{startDesk, registered, clientOf, fresh, waitOf, stored, putClient, entered}
 use Rattle.link.specs.Rules.{connectOf as linkUp, startLink}
+use Rattle.link.specs.declared.Connecting.the-variants.{Connected}
 use Rattle.link.specs.declared.FeatureSupport.the-variants.{Unknown}
 use Rattle.link.specs.declared.Session.{Session}
-use Rattle.manager.specs.Calls.{dueOf, finishOf, noTable, tickOf}
+use Rattle.manager.specs.Calls.{dueOf, finishOf, noTable, after, sent, handleOf}
 use Rattle.manager.specs.Calls.{startOf as startManager}
 use Rattle.passes.specs.Sweep.{news, entryAfter, tidings}
 use Rattle.passes.specs.Wishes.{wishOf}
@@ -41,13 +41,15 @@ use Rattle.reply.specs.Rules.{noReply, sumOf, lengthsOf, totalOf, withinOf, siz
 use Rattle.reply.specs.declared.Reply.{Reply}
 use Rattle.reply.specs.declared.Response.{Response}
 use Rattle.waits.specs.Rules.{collectedOf}
-use Rattle.obd2.specs.Calls.{startOf, registerOf, askOf, collectOf, respondOf, connectOf, askArea, collectArea}
-use Rattle.obd2.specs.History.{Call, register, ask, collect, response, connect, FitResponse, Calls, none, more, Event, accepted, step, lentAfter, eventOf, run, happened, happened-append}
-use Rattle.obd2.specs.Refusals.{badTime, crowded, overRange, startRefusal, registerRefusal, askRefusal, collectRefusal, responseRefusal, connectRefusal}
+use Rattle.obd2.specs.Call.{Call, register, ask, collect, response, connect, FitResponse, Calls, none, more}
+use Rattle.obd2.specs.Done.{managerBy, cacheBy, linkBy, doneOf}
+use Rattle.obd2.specs.History.{Event, accepted, startOf, step, lentBy, eventOf, run, happened, happened-append}
+use Rattle.obd2.specs.Refusals.{crowded, overRange, startRefusal, managerRows, cacheRows, linkRows, rowsOf, refusalOf}
 use Rattle.obd2.specs.State.{managed, started}
 use Rattle.obd2.specs.declared.State.{State}
-use Rattle.obd2.specs.declared.Answer.the-variants as answer
-use Rattle.readings.specs.Claim.{readFrom, connected, pending, nothing, delivery, CacheAsk, hands}
+use Rattle.obd2.specs.declared.Answer.the-variants.{Accepted}
+use Rattle.obd2.specs.declared.Said.the-variants as said
+use Rattle.readings.specs.Claim.{deed, Due, nothing, delivery, Figures, readFrom, read, CacheAsk}
 
 -- 41 0C 1A F8 h, in one line: the reply of both responses, so that the two deliveries have equal bytes.
 abbrev pub reading : Reply
@@ -97,41 +99,34 @@ theCollect = eventOf (run box (opening ++ waited)) (collect 4 1 area)
 abbrev pub secondAsk : Event
 secondAsk = eventOf (run box (opening ++ (waited ++ collecting))) (ask 6 1 command area)
 
--- What the box's definitions compute to: each answer, and the lent areas of the two calls that hand out a reading.
+-- An accepted ask for 0Ch with x due, and an accepted collect with x due, which hand it out.
+abbrev pub AskedFor : Due → Figures → Event → Type 0
+AskedFor x v e = (accepted e ≡ true) × CacheAsk v command 12 × (v .pending 1 12 ≡ x)
+
+abbrev pub HandedTo : Due → Figures → Event → Type 0
+HandedTo x v e = (accepted e ≡ true) × (v .pending 1 12 ≡ x) × (deed e .hands 1 12 ≡ true)
+
+-- What the box's definitions compute to: each answer, the lent areas of the two calls that hand out a reading, and what
+-- holds of the first ask, the collect and the second ask.
 pub record Computed : Type 0 where
   pub answers : map (λ (e : Event). e .answer) history
-      ≡ answer.Client 1 ∷ answer.Connected ∷ answer.Waiting 12 ∷ answer.Done ∷ answer.Collected 12 3 ∷ answer.Done ∷ answer.Reading 12 ∷ []
+      ≡ map Accepted (said.Client 1 ∷ said.Connecting Connected ∷ said.Asked (Waiting 12) ∷ said.Done ∷ said.Collected 12 3 ∷ said.Done ∷ said.Asked (Reading 12) ∷ [])
   pub areas : map (λ (e : Event). e .lent) history ≡ [] ∷ [] ∷ [] ∷ [] ∷ (65 ∷ 12 ∷ 26 ∷ 248 ∷ 7 ∷ []) ∷ [] ∷ (65 ∷ 12 ∷ 26 ∷ 248 ∷ 7 ∷ []) ∷ []
-  -- the histories before the first ask, the collect and the second ask
-  pub stands : connected (happened box opening) ≡ true
-  pub stands-still : connected (happened box (opening ++ (waited ++ collecting))) ≡ true
-  pub asks-for : commandOf command ≡ commands.Pid 12
-  pub nothing-due : pending 1 12 (happened box opening) ≡ nothing
-  pub first-due : pending 1 12 (happened box (opening ++ waited)) ≡ delivery 3 reading
-  pub second-due : pending 1 12 (happened box (opening ++ (waited ++ collecting))) ≡ delivery 5 reading
-  pub ask-accepted : accepted firstAsk ≡ true
-  pub collect-accepted : accepted theCollect ≡ true
-  pub again-accepted : accepted secondAsk ≡ true
-  pub collect-hands : hands 1 12 theCollect ≡ true
-  pub again-hands : hands 1 12 secondAsk ≡ true
+  pub waits : AskedFor nothing (read (happened box opening)) firstAsk
+  pub collects : HandedTo (delivery 3 reading) (read (happened box (opening ++ waited))) theCollect
+  pub asks : AskedFor (delivery 5 reading) (read (happened box (opening ++ (waited ++ collecting)))) secondAsk
+  pub hands : deed secondAsk .hands 1 12 ≡ true
 
 pub computed : Computed
-unfolding step startOf startRefusal unknownMode many badProfiles inForce firstOf started startManager noTable news entryAfter tidings toldOf wishOf speed entryRegistered emptyOf sendAll messages emptyLine freeOf pushAllOf startDesk newcomer startPoller startLink registerOf registerRefusal badTime crowded managed tickOf finishOf dueOf placeOf entered putClient happened lentAfter askArea collectArea connectOf connectRefusal someOf overRange connectPoller linkUp askOf askRefusal registered registeredOf stepOf commandStep commandOf stripped sameText rangeTexts indexOf pidOf between upper hexValue busy waitOf clientOf findOf fresh freshIn stored handedOf answerOf afterAsk takenOf waitingOf idledOf respondOf responseRefusal unfit risingFrom over withinOf totalOf lengthsOf sumOf sizeOf joinedOf filledOf responseOf deskResponseRefusal turnsOf turnOf deliverOf markedOf collectOf collectRefusal collectedOf run readFrom connected pending arrivesIn newestIn Rattle.manager.specs.Calls.registerOf
+unfolding step refusalOf rowsOf doneOf managerBy cacheBy linkBy startOf startRefusal unknownMode many badProfiles inForce firstOf started startManager noTable news entryAfter tidings toldOf wishOf speed entryRegistered emptyOf sendAll messages emptyLine freeOf pushAllOf startDesk newcomer startPoller startLink managerRows crowded managed handleOf after sent finishOf dueOf placeOf entered putClient happened lentBy filledBy linkRows someOf overRange connectPoller linkUp cacheRows registered registeredOf stepOf commandStep commandOf stripped sameText rangeTexts indexOf pidOf between upper hexValue busy waitOf clientOf findOf fresh freshIn stored handedOf answerOf afterAsk takenOf waitingOf idledOf unfit risingFrom over withinOf totalOf lengthsOf sumOf sizeOf joinedOf filledOf responseOf responseRefusal turnsOf turnOf deliverOf markedOf collectedOf run readFrom arrivesIn newestIn Rattle.manager.specs.Calls.registerOf
 computed =
     record {
       answers = refl;
       areas = refl;
-      stands = refl;
-      stands-still = refl;
-      asks-for = refl;
-      nothing-due = refl;
-      first-due = refl;
-      second-due = refl;
-      ask-accepted = refl;
-      collect-accepted = refl;
-      again-accepted = refl;
-      collect-hands = refl;
-      again-hands = refl;
+      waits = (refl, record { stands = refl; command = refl }, refl);
+      collects = (refl, refl, refl);
+      asks = (refl, record { stands = refl; command = refl }, refl);
+      hands = refl;
     }
 
 revs-bytes : (i : ℕ) → i < 6 → getD (revs .pids) i 0 < 256
@@ -143,56 +138,44 @@ revs-fit = record { six = refl; small = record { each = revs-bytes }; replies = 
 pub calls-fit : Calls calls
 calls-fit = more tt (more tt (more tt (more revs-fit (more tt (more revs-fit (more tt none))))))
 
--- An event of the history, and what holds of it and of the events before it.
-pub record Part (P : List Event → Event → Type 0) : Type 0 where
+-- An event of the history, and what holds of it and of what is read off the events before it.
+pub record Part (P : Figures → Event → Type 0) : Type 0 where
   pub before : List Event
   pub event : Event
   pub after : List Event
   pub is : history ≡ before ++ (event ∷ after)
-  pub holds : P before event
+  pub holds : P (read before) event
+
+part : (P : Figures → Event → Type 0) (cs ds : List Call) (c : Call) → calls ≡ cs ++ (c ∷ ds)
+    → P (read (happened box cs)) (eventOf (run box cs) c) → Part P
+unfolding happened
+part P cs ds c e h =
+    record {
+      before = happened box cs;
+      event = eventOf (run box cs) c;
+      after = happened (step (run box cs) c .state) ds;
+      is = ap (happened box) e ∙ happened-append cs (c ∷ ds) box;
+      holds = h;
+    }
 
 -- Part 1 where nothing is due, and where something is.
-pub met-waiting : Part (λ h e. (e .call ≡ ask 1 1 command []) × (accepted e ≡ true) × CacheAsk h command 12 × (pending 1 12 h ≡ nothing))
-unfolding happened
-met-waiting =
-    record {
-      before = happened box opening;
-      event = firstAsk;
-      after = happened (step (run box opening) (ask 1 1 command []) .state) (response 2 revs ∷ (collecting ++ asking));
-      is = happened-append opening (waited ++ (collecting ++ asking)) box;
-      holds = (refl, computed .ask-accepted, record { stands = computed .stands; command = computed .asks-for }, computed .nothing-due);
-    }
+pub met-waiting : Part (λ v e. (e .call ≡ ask 1 1 command []) × AskedFor nothing v e)
+met-waiting = part _ opening (response 2 revs ∷ (collecting ++ asking)) (ask 1 1 command []) refl (refl, computed .waits)
 
-pub met-reading : Part (λ h e. (e .call ≡ ask 6 1 command area) × (accepted e ≡ true) × CacheAsk h command 12 × (pending 1 12 h ≡ delivery 5 reading))
-unfolding happened
-met-reading =
-    record {
-      before = happened box (opening ++ (waited ++ collecting));
-      event = secondAsk;
-      after = [];
-      is = happened-append (opening ++ (waited ++ collecting)) asking box;
-      holds = (refl, computed .again-accepted, record { stands = computed .stands-still; command = computed .asks-for }, computed .second-due);
-    }
+pub met-reading : Part (λ v e. (e .call ≡ ask 6 1 command area) × AskedFor (delivery 5 reading) v e)
+met-reading = part _ (opening ++ (waited ++ collecting)) [] (ask 6 1 command area) refl (refl, computed .asks)
 
 -- Part 2.
-pub met-collect : Part (λ h e. (e .call ≡ collect 4 1 area) × (accepted e ≡ true))
-unfolding happened
-met-collect =
-    record {
-      before = happened box (opening ++ waited);
-      event = theCollect;
-      after = happened (step (run box (opening ++ waited)) (collect 4 1 area) .state) (response 5 revs ∷ asking);
-      is = happened-append (opening ++ waited) (collecting ++ asking) box;
-      holds = (refl, computed .collect-accepted);
-    }
+pub met-collect : Part (λ v e. (e .call ≡ collect 4 1 area) × HandedTo (delivery 3 reading) v e)
+met-collect = part _ (opening ++ waited) (response 5 revs ∷ asking) (collect 4 1 area) refl (refl, computed .collects)
 
 -- Part 3: client 1 is handed two readings of 0Ch, with equal bytes.
 pub record Twice : Type 0 where
   pub before : List Event
   pub between : List Event
   pub is : history ≡ before ++ (theCollect ∷ (between ++ (secondAsk ∷ [])))
-  pub first : hands 1 12 theCollect ≡ true
-  pub second : hands 1 12 secondAsk ≡ true
+  pub first : deed theCollect .hands 1 12 ≡ true
+  pub second : deed secondAsk .hands 1 12 ≡ true
 
 pub met-twice : Twice
 unfolding happened run
@@ -201,6 +184,6 @@ met-twice =
       before = happened box (opening ++ waited);
       between = happened (step (run box (opening ++ waited)) (collect 4 1 area) .state) (response 5 revs ∷ []);
       is = happened-append (opening ++ waited) (collecting ++ asking) box;
-      first = computed .collect-hands;
-      second = computed .again-hands;
+      first = computed .collects .2;
+      second = computed .hands;
     }

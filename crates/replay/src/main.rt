@@ -17,8 +17,7 @@ use obd2::call::Brought;
 use obd2::call::Call;
 use poller::Round;
 use reply::Response;
-ghost use mathlib.Core.Path.{_≡_};
-ghost use Prim.Native.Nat.{_≤_, min};
+ghost use Prim.Native.Nat.{_≤_};
 
 // The longest line that is taken, the largest lent area, and the room for answers that wait to be written.
 const LONGEST: usize = 8191;
@@ -81,12 +80,6 @@ struct Turn {
     more: bool,
 }
 
-fn least(a: usize, b: usize) -> usize
-    ensures { λ r. ⌜ r ≡ min a b ⌝ }
-{
-    if a < b { a } else { b }
-}
-
 // Before the first start the box is the one that a refused start gives: no box starts at so late a time.
 fn first() -> Playing {
     let brought = history::nothing();
@@ -139,7 +132,7 @@ fn listed(profiles: Profiles) -> [Profile; LISTED] {
 fn listed_count(profiles: Profiles) -> usize
     ensures { λ r. ⌜ r ≤ 17 ⌝ }
 {
-    least(profiles.count as usize, LISTED)
+    base::least(profiles.count as usize, LISTED)
 }
 
 // The start, with the profiles lent.
@@ -199,7 +192,7 @@ fn tell(
 
 // Writes the answers that wait.
 fn flush(mut notes: Notes, out: &[u8]) -> Notes {
-    let n = least(notes.waiting, out.len());
+    let n = base::least(notes.waiting, out.len());
     io::write_all(STDOUT_FILENO, &out[..n]);
     notes.waiting = 0;
     notes
@@ -207,7 +200,7 @@ fn flush(mut notes: Notes, out: &[u8]) -> Notes {
 
 // Makes room for one more answer.
 fn room(notes: Notes, out: &[u8]) -> Notes {
-    if out.len() - least(notes.waiting, out.len()) < ANSWER {
+    if out.len() - base::least(notes.waiting, out.len()) < ANSWER {
         return flush(notes, out);
     }
     notes
@@ -304,7 +297,7 @@ fn take_line(
         };
     }
     notes.reading = lines::start();
-    let len = least(read.len, line.len());
+    let len = base::least(read.len, line.len());
     read_line(notes, &line[..len], read.long, round, bytes, out)
 }
 
@@ -337,8 +330,8 @@ fn answer_part(
                 notes = tell(notes, Call::Tick, answer, last.details, b"", out);
             }
             Task::Call(asked) => {
-                let cmd = &bytes[..least(asked.cmd, bytes.len())];
-                let m = least(asked.area, area.len());
+                let cmd = &bytes[..base::least(asked.cmd, bytes.len())];
+                let m = base::least(asked.area, area.len());
                 let room = &mut area[..m];
                 let call = asked.call;
                 last = dispatch::call(last.state, asked.time, call, notes.brought, cmd, room);

@@ -3,7 +3,7 @@ use mathlib.Core.Bool.{Bool, false, _||_}
 use Prim.Native.Nat.{ℕ, _+_, _-_}
 use lib.Dec.{ltb, leb}
 use Rattle.base.specs.Choice.{pick}
-use Rattle.pid_table.specs.Entry.{oneMore}
+use Rattle.base.specs.Count.{moreOf}
 use Rattle.pid_table.specs.declared.WaitDuration.{WaitDuration}
 use Rattle.pid_table.specs.declared.WaitDuration.the-variants.{Hit, Miss}
 use Rattle.report.specs.declared.metrics.CacheMetrics.{CacheMetrics}
@@ -16,8 +16,8 @@ unfoldable pub longerBy : ℕ → ℕ → ℕ
 longerBy total wait = pick (leb wait (18446744073709551615 - total)) (total + wait) 18446744073709551615
 
 unfoldable pub notedOf : CacheMetrics → WaitDuration → CacheMetrics
-notedOf m Hit = record { hits = oneMore (m .hits); misses = m .misses; wait = m .wait }
-notedOf m (Miss time) = record { hits = m .hits; misses = oneMore (m .misses); wait = longerBy (m .wait) time }
+notedOf m Hit = record { hits = moreOf (m .hits); misses = m .misses; wait = m .wait }
+notedOf m (Miss time) = record { hits = m .hits; misses = moreOf (m .misses); wait = longerBy (m .wait) time }
 
 -- Refusal 4: a wait over 60,000, or hits + misses at 16,777,215.
 unfoldable pub overlongOf : WaitDuration → Bool

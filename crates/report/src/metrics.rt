@@ -37,13 +37,13 @@ pub fn noted(metrics: CacheMetrics, wait: WaitDuration) -> CacheMetrics
 {
     match wait {
         WaitDuration::Hit => CacheMetrics {
-            hits: pid_table::one_more(metrics.hits),
+            hits: base::more(metrics.hits),
             misses: metrics.misses,
             wait: metrics.wait,
         },
         WaitDuration::Miss(time) => CacheMetrics {
             hits: metrics.hits,
-            misses: pid_table::one_more(metrics.misses),
+            misses: base::more(metrics.misses),
             wait: longer_by(metrics.wait, time),
         },
     }

@@ -10,6 +10,7 @@ use Rattle.config.specs.Defaults.{defaultSettings}
 use Rattle.config.specs.declared.Profiles.{Profiles}
 use Rattle.config.specs.declared.Settings.{Settings}
 use Rattle.control.specs.declared.DongleMessage.{DongleMessage}
+use Rattle.control_line.specs.declared.Taken.the-variants.{Message}
 use Rattle.link.specs.Rules.{isNo}
 use Rattle.link.specs.declared.FeatureSupport.{FeatureSupport}
 use Rattle.link.specs.declared.FeatureSupport.the-variants.{Unknown}
@@ -17,13 +18,17 @@ use Rattle.pid_list.specs.Rules.{entries}
 use Rattle.poll_laws.specs.Lists.{Both}
 use Rattle.poller.specs.Calls.{multiAllowed}
 use Rattle.rounds.specs.Result.{isLost}
-use Rattle.poller.specs.State.{openOf, pidsOf}
+use Rattle.rounds.specs.declared.Step.the-variants.{Ask, End}
+use Rattle.poller.specs.State.{pidsOf}
 use Rattle.poller.specs.declared.Query.{Query}
-use Rattle.obd2.specs.Calls.{startOf}
-use Rattle.obd2.specs.History.{Call, register, leave, ask, collect, giveUp, response, profilePidsChanged, waiting, consumed, tick, settings, takeControl, connect, connectFailed, reconnectCheck, begin, next, result, Event, acceptedBy, accepted, run, happened}
+use Rattle.obd2.specs.Call.{Call, manager, cache, settings, takeControl, link, round, Connect, Fail, Check, Begin, Next, Result}
+use Rattle.obd2.specs.History.{startOf, Event, acceptedBy, accepted, run, happened}
+use Rattle.obd2.specs.Refusals.{roundOpen}
 use Rattle.obd2.specs.declared.State.{State}
 use Rattle.obd2.specs.declared.Answer.{Answer}
-use Rattle.obd2.specs.declared.Answer.the-variants as answer
+use Rattle.obd2.specs.declared.Answer.the-variants.{Refused, Accepted}
+use Rattle.obd2.specs.declared.Said.{Said}
+use Rattle.obd2.specs.declared.Said.the-variants as said
 
 -- ---- the connection and the settings, read from the accepted calls' arguments
 
@@ -36,24 +41,16 @@ pub record Seen : Type 0 where
 -- What an accepted call makes of them. Connecting while connected changes nothing; an attempt that failed leaves
 -- the connection up or down, as it was; a result tells the multi-PID state, and a loss.
 abbrev pub readBy : Seen → Call → Seen
-readBy k (register t) = k
-readBy k (leave t c) = k
-readBy k (ask t c cmd area) = k
-readBy k (collect t c area) = k
-readBy k (giveUp t c) = k
-readBy k (response t r) = k
-readBy k (profilePidsChanged t ps) = k
-readBy k (waiting t p) = k
-readBy k (consumed t p w) = k
-readBy k (tick t) = k
+readBy k (manager t c) = k
+readBy k (cache t c) = k
 readBy k (settings t st) = record { up = k .up; multi = k .multi; settings = st }
 readBy k (takeControl t) = k
-readBy k (connect t session) = pick (k .up) k (record { up = true; multi = session .features .multi; settings = k .settings })
-readBy k (connectFailed t) = k
-readBy k (reconnectCheck t) = k
-readBy k (begin t) = k
-readBy k (next t) = k
-readBy k (result t o) = record { up = pick (isLost (o .kind)) false (k .up); multi = o .features .multi; settings = k .settings }
+readBy k (link t (Connect session)) = pick (k .up) k (record { up = true; multi = session .features .multi; settings = k .settings })
+readBy k (link t Fail) = k
+readBy k (link t Check) = k
+readBy k (round t Begin) = k
+readBy k (round t Next) = k
+readBy k (round t (Result o)) = record { up = pick (isLost (o .kind)) false (k .up); multi = o .features .multi; settings = k .settings }
 
 abbrev pub seen : Seen → Event → Seen
 seen k e = pick (accepted e) (readBy k (e .call)) k
@@ -76,52 +73,38 @@ pub data Mark : Type 0 where
   ended : Mark
   aside : Mark
 
-abbrev pub nextMark : Answer → Query → Mark
-nextMark (answer.Refused n) q = aside
-nextMark answer.Started q = aside
-nextMark (answer.Client n) q = aside
-nextMark answer.Done q = aside
-nextMark answer.Unable q = aside
-nextMark answer.NoData q = aside
-nextMark answer.Unknown q = aside
-nextMark answer.Range q = aside
-nextMark (answer.Reading p) q = aside
-nextMark (answer.Collected p w) q = aside
-nextMark (answer.Waiting p) q = aside
-nextMark answer.Nothing q = aside
-nextMark (answer.Control m) q = aside
-nextMark answer.Connected q = aside
-nextMark answer.Failed q = aside
-nextMark answer.Already q = aside
-nextMark answer.Yes q = aside
-nextMark answer.No q = aside
-nextMark answer.Query q = asked (pidsOf q)
-nextMark (answer.End n) q = ended
+abbrev pub nextMark : Said → Query → Mark
+nextMark said.Started q = aside
+nextMark (said.Client n) q = aside
+nextMark said.Done q = aside
+nextMark (said.Asked x) q = aside
+nextMark (said.Collected p w) q = aside
+nextMark said.GivenUp q = aside
+nextMark (said.Taken x) q = aside
+nextMark (said.Connecting x) q = aside
+nextMark (said.Check b) q = aside
+nextMark (said.Step Ask) q = asked (pidsOf q)
+nextMark (said.Step (End n)) q = ended
+
+-- An accepted call.
+abbrev pub markDone : Call → Said → Query → Mark
+markDone (manager t c) a q = aside
+markDone (cache t c) a q = aside
+markDone (settings t st) a q = aside
+markDone (takeControl t) a q = aside
+markDone (link t c) a q = aside
+markDone (round t Begin) a q = begun
+markDone (round t Next) a q = nextMark a q
+markDone (round t (Result o)) a q = aside
 
 abbrev pub markOf : Call → Answer → Query → Mark
-markOf (register t) a q = aside
-markOf (leave t c) a q = aside
-markOf (ask t c cmd area) a q = aside
-markOf (collect t c area) a q = aside
-markOf (giveUp t c) a q = aside
-markOf (response t r) a q = aside
-markOf (profilePidsChanged t ps) a q = aside
-markOf (waiting t p) a q = aside
-markOf (consumed t p w) a q = aside
-markOf (tick t) a q = aside
-markOf (settings t st) a q = aside
-markOf (takeControl t) a q = aside
-markOf (connect t session) a q = aside
-markOf (connectFailed t) a q = aside
-markOf (reconnectCheck t) a q = aside
-markOf (begin t) a q = pick (acceptedBy a) begun aside
-markOf (next t) a q = nextMark a q
-markOf (result t o) a q = aside
+markOf c (Refused n) q = aside
+markOf c (Accepted a) q = markDone c a q
 
 abbrev pub mark : Event → Mark
 mark e = markOf (e .call) (e .answer) (e .details .query)
 
--- Whether a round is open after it, and over a history. `open-run` in `Open`: so it is of the box.
+-- Whether a round is open after it, and over a history. `open-run` in `Reading`: so it is of the box.
 abbrev pub openBy : Mark → Bool → Bool
 openBy begun b = true
 openBy (asked ps) b = b
@@ -164,7 +147,7 @@ joined (xs ∷ rs) = xs ++ joined rs
 pub record Quiet (k : Seen) (e : Event) : Type 0 where
   pub stays-up : seen k e .up ≡ true
   pub single : mark e ≡ begun → multiAllowed (k .settings .multi) (isNo (k .multi)) ≡ false
-  pub none-taken : (m : DongleMessage) → e .answer ≡ answer.Control m → ⊥
+  pub none-taken : (m : DongleMessage) → e .answer ≡ Accepted (said.Taken (Message m)) → ⊥
   pub unchanged : seen k e .settings ≡ k .settings
 
 pub data Steady : Seen → List Event → Type 0 where
@@ -181,16 +164,21 @@ pub record Asked (fast slow : List ℕ) (st : Settings) (rs : List (List ℕ)) :
   pub slow-asked : (st .mode ≡ 0 → ⊥) → 0 < length fast
       → (k q : ℕ) → k + length slow * max 1 (st .ratio) ≤ length rs → 0 < times q slow → 0 < times q (joined (take (length slow * max 1 (st .ratio)) (drop k rs)))
 
--- A box with no round open, sound lists and the connection up, and a list of calls. A ratio has 32 bits.
-pub record Given (s : State) (cs : List Call) : Type 0 where
-  pub closed : openOf (s .poller .round .phase) ≡ false
-  pub lists : Both (s .poller .fast) (s .poller .slow)
-  pub up : s .poller .link .connected ≡ true
-  pub fits : s .settings .ratio ≤ 4294967295
-  pub steady : Steady (seenAt s) (happened s cs)
+-- "as long as the connection stays up, every round is a single one run to its end, no further control message is taken and no
+-- setting changed": what is so before it, with no round open, and the history. A ratio has 32 bits.
+pub record Lasting (opened : Bool) (k : Seen) (h : List Event) : Type 0 where
+  pub closed : opened ≡ false
+  pub up : k .up ≡ true
+  pub fits : k .settings .ratio ≤ 4294967295
+  pub steady : Steady k h
+
+-- Of a box with sound lists, and what is so of its round, its connection and its settings.
+abbrev pub ClaimOf : State → Bool → Seen → Type 0
+ClaimOf s opened k = Both (s .poller .fast) (s .poller .slow) → (cs : List Call) → Lasting opened k (happened s cs)
+    → Asked (entries (s .poller .fast)) (entries (s .poller .slow)) (k .settings) (rounds (happened s cs))
 
 abbrev pub Claim : Type 0
-Claim = (s : State) (cs : List Call) → Given s cs → Asked (entries (s .poller .fast)) (entries (s .poller .slow)) (s .settings) (rounds (happened s cs))
+Claim = (s : State) → ClaimOf s (roundOpen s) (seenAt s)
 
 -- The same in a history from a start, refused or not: `before` leads to the box, and all but its two lists is read
 -- from the calls and answers since the start, at which nothing is connected, the multi-PID state is unknown, and the
@@ -205,12 +193,8 @@ module _ (t : ℕ) (st : Settings) (ps : Profiles) (before : List Call) where
   abbrev pub read : Seen
   read = seenOver (record { up = false; multi = Unknown; settings = pick (acceptedBy (startOf t st ps .answer)) st defaultSettings }) sofar
 
-  pub record Since (cs : List Call) : Type 0 where
-    pub closed : openOver false sofar ≡ false
-    pub lists : Both (there .poller .fast) (there .poller .slow)
-    pub up : read .up ≡ true
-    pub fits : read .settings .ratio ≤ 4294967295
-    pub steady : Steady read (happened there cs)
+  abbrev pub LastingSince : List Call → Type 0
+  LastingSince cs = Lasting (openOver false sofar) read (happened there cs)
 
   abbrev pub ClaimSince : Type 0
-  ClaimSince = (cs : List Call) → Since cs → Asked (entries (there .poller .fast)) (entries (there .poller .slow)) (read .settings) (rounds (happened there cs))
+  ClaimSince = ClaimOf there (openOver false sofar) read

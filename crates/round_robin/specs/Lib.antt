@@ -1,10 +1,7 @@
 pub mod Claim
 pub mod Machine
-pub mod Fast
-pub mod Slow
-pub mod Aside
+pub mod Covers
 pub mod Reading
-pub mod Open
 pub mod Steps
 pub mod Theorem
 pub mod Witness

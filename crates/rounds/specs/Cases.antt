@@ -1,31 +1,27 @@
 -- Each definition of the calls, case by case: what the functions' proofs and the laws cite.
-use mathlib.Core.Bool.{true, false, not, _&&_}
+use mathlib.Core.Bool.{true, false, _&&_}
 use mathlib.Core.List.{List, [], _∷_}
-use mathlib.Core.Path.{_≡_, refl}
+use mathlib.Core.Path.{_≡_, refl, ap}
 use Prim.Native.Nat.{ℕ, suc, _+_, _<_, _≤_}
 use native.Mathlib.Omega.{arith}
 use lib.Dec.{eqb}
 use lib.ListN.{length, getD, drop, drop-of-length-le}
 use lib.Seq.{drop-cons, getD-drop, drop-drop}
-use Rattle.base.specs.Choice.{pick, cases}
+use Rattle.base.specs.Choice.{cases}
+use Rattle.base.specs.Count.{moreOf}
 use Rattle.link.specs.Rules.{isNo}
 use Rattle.pid_list.specs.Rules.{nextOf as nextPid}
 use Rattle.plan.specs.Steps.{chunkOf, takeOf}
-use Rattle.plan.specs.declared.Chunk.{Chunk}
-use Rattle.poller.specs.Calls.{done, refused}
-use Rattle.poller.specs.Numbers.{saidNumber}
-use Rattle.rounds.specs.Next.{moreOf, issueOf, endOf, slowDue, slowOf, firstOf, multiOf, stepIn, nextOf}
-use Rattle.rounds.specs.Numbers.{stepNumber, stepValues, valuesFrom}
+use Rattle.rounds.specs.Next.{issueOf, endOf, slowDue, slowOf, firstOf, multiOf, stepIn, nextOf}
+use Rattle.rounds.specs.Numbers.{stepValues, valuesFrom}
 use Rattle.rounds.specs.Result.{nothing, teachOf, teachAll, isLost, lessonsOf, linkAfter, roundAfter, clockAfter, resultOf}
-use Rattle.poller.specs.State.{openOf, dueOf, withFast, withSlow, withPlan}
-use Rattle.poller.specs.declared.Changed.{Changed}
+use Rattle.poller.specs.State.{withFast, withSlow, withPlan}
 use Rattle.poller.specs.declared.Phase.{Phase}
 use Rattle.poller.specs.declared.Phase.the-variants.{Closed, First, FastDue, Test, SlowDue, Multi, MultiDue, Over}
 use Rattle.poller.specs.declared.Poller.{Poller}
 use Rattle.rounds.specs.declared.Learnt.{Learnt}
 use Rattle.rounds.specs.declared.Lessons.{Lessons}
 use Rattle.rounds.specs.declared.Outcome.{Outcome}
-use Rattle.rounds.specs.declared.Step.{Step}
 use Rattle.rounds.specs.declared.Stepped.{Stepped}
 
 module _ (p : Poller) where
@@ -63,11 +59,7 @@ module _ (p : Poller) where
   multi-some e = rw e
 
   module _ (t : ℕ) (o : Outcome) where
-    pub result-none : dueOf (p .round .phase) ≡ false → resultOf p t o ≡ refused p
-    unfolding resultOf
-    result-none e = rw e
-
-    pub result-due : dueOf (p .round .phase) ≡ true → resultOf p t o ≡ done (record {
+    pub result-due : resultOf p t o ≡ record {
       fast = p .fast;
       slow = p .slow;
       clock = clockAfter (p .round .phase) (p .clock) t;
@@ -77,9 +69,9 @@ module _ (p : Poller) where
       settings = p .settings;
       plan = p .plan;
       round = roundAfter (p .round) (isNo (o .features .multi)) (isLost (o .kind));
-    })
+    }
     unfolding resultOf
-    result-due e = rw e
+    result-due = refl
 
 -- ---- the loop of `learn`, one turn and its end
 
@@ -100,72 +92,35 @@ module _ (k : Lessons) (qs : List ℕ) (ls : List Learnt) (i : ℕ) where
   unfolding teachAll
   teach-end h = rw (drop-of-length-le qs h)
 
--- ---- the answers' numbers and values: 13 is "next with no round open or a result due; result with none due"
+-- ---- the values of a query and of a round's end
 
-abbrev Answers : Poller → ℕ → Stepped → Type 0
-Answers p n r = (stepNumber (r .step) ≡ n) × (stepValues (r .step) (r .poller .round .due) ≡ valuesFrom (p .counts) (p .round .issued) (r .step) (r .poller .round .due))
-
-issue-answers : (p : Poller) (phase : Phase) (c : Chunk) → Answers p 0 (issueOf p phase c)
-unfolding issueOf
-issue-answers p phase c = (refl, refl)
-
-end-answers : (p : Poller) → Answers p 0 (endOf p)
-unfolding endOf
-end-answers p = (refl, refl)
+abbrev Answers : Poller → Stepped → Type 0
+Answers p r = stepValues (r .step) (r .poller .round .due) ≡ valuesFrom (p .counts) (p .round .issued) (r .step) (r .poller .round .due)
 
 module _ (p : Poller) where
-  slow-answers : (t : ℕ) → Answers p 0 (slowOf p t)
+  slow-answers : (t : ℕ) → Answers p (slowOf p t)
+  unfolding issueOf endOf
   slow-answers t = cases _ (slowDue (p .settings) t (p .clock) (p .requests))
-      (λ e. cases _ (nextPid (p .slow) .found && p .link .connected)
-      (λ f. rw (slow-sent p t e f) (issue-answers (withSlow p (nextPid (p .slow) .list) (p .clock) 0) SlowDue (chunkOf (nextPid (p .slow) .pid ∷ []))))
-      (λ f. rw (slow-unsent p t e f) (end-answers (withSlow p (nextPid (p .slow) .list) t 0))))
-      (λ e. rw (slow-not p t e) (end-answers p))
+      (λ e. cases _ (nextPid (p .slow) .found && p .link .connected) (λ f. rw (slow-sent p t e f)) (λ f. rw (slow-unsent p t e f)))
+      (λ e. rw (slow-not p t e))
 
-  first-answers : (t : ℕ) → Answers p 0 (firstOf p t)
-  first-answers t = cases _ (nextPid (p .fast) .found)
-      (λ e. rw (first-some p t e) (issue-answers (withFast p (nextPid (p .fast) .list) (moreOf (p .requests))) FastDue (chunkOf (nextPid (p .fast) .pid ∷ []))))
-      (λ e. rw (first-none p t e) (slow-answers t))
-
-  multi-answers : Answers p 0 (multiOf p)
-  multi-answers = cases _ (eqb (takeOf (p .plan) .chunk .count) 0)
-      (λ e. rw (multi-end p e) (end-answers p))
-      (λ e. rw (multi-some p e) (issue-answers (withPlan p (takeOf (p .plan) .plan)) MultiDue (takeOf (p .plan) .chunk)))
-
-  step-answers : (x : Phase) (t : ℕ) → Answers p (pick (openOf x && not (dueOf x)) 0 13) (stepIn x p t)
-  step-answers Closed t = (refl, refl)
-  step-answers First t = first-answers t
-  step-answers FastDue t = (refl, refl)
+  step-answers : (x : Phase) (t : ℕ) → Answers p (stepIn x p t)
+  unfolding issueOf endOf
+  step-answers Closed t = refl
+  step-answers First t = cases _ (nextPid (p .fast) .found) (λ e. rw (first-some p t e)) (λ e. rw (first-none p t e) (slow-answers t))
+  step-answers FastDue t = refl
   step-answers Test t = slow-answers t
-  step-answers SlowDue t = (refl, refl)
-  step-answers Multi t = multi-answers
-  step-answers MultiDue t = (refl, refl)
-  step-answers Over t = end-answers p
+  step-answers SlowDue t = refl
+  step-answers Multi t = cases _ (eqb (takeOf (p .plan) .chunk .count) 0) (λ e. rw (multi-end p e)) (λ e. rw (multi-some p e))
+  step-answers MultiDue t = refl
+  step-answers Over t = refl
 
-  next-answers : (t : ℕ) → Answers p (pick (openOf (p .round .phase) && not (dueOf (p .round .phase))) 0 13) (nextOf p t)
+  -- What `next` does in a phase.
+  pub next-in : (t : ℕ) {x : Phase} → p .round .phase ≡ x → nextOf p t ≡ stepIn x p t
   unfolding nextOf
-  next-answers t = step-answers (p .round .phase) t
+  next-in t e = ap (λ (x : Phase). stepIn x p t) e
 
-  -- All that `next` and `result` promise.
-  pub next-all : (t : ℕ) {r : Stepped} → r ≡ nextOf p t → (r ≡ nextOf p t) × Answers p (pick (openOf (p .round .phase) && not (dueOf (p .round .phase))) 0 13) r
-  next-all t e = (e, rw e (next-answers t))
-
-  pub result-number : (t : ℕ) (o : Outcome) → saidNumber 13 (resultOf p t o .said) ≡ pick (dueOf (p .round .phase)) 0 13
-  result-number t o = cases _ (dueOf (p .round .phase)) (λ e. rw (result-due p t o e, e)) (λ e. rw (result-none p t o e, e))
-
-  pub result-all : (t : ℕ) (o : Outcome) {r : Changed} → r ≡ resultOf p t o → (r ≡ resultOf p t o) × (saidNumber 13 (r .said) ≡ pick (dueOf (p .round .phase)) 0 13)
-  result-all t o e = (e, rw e (result-number t o))
-
--- Outside its condition `next` changes nothing.
-step-refused : (x : Phase) (p : Poller) (t : ℕ) → (openOf x && not (dueOf x)) ≡ false → stepIn x p t ≡ record { poller = p; step = Step.Refused }
-step-refused Closed p t e = refl
-step-refused First p t e = absurd (let z : _≡_ {A = ℕ} 0 1 = cc in omega arith)
-step-refused FastDue p t e = refl
-step-refused Test p t e = absurd (let z : _≡_ {A = ℕ} 0 1 = cc in omega arith)
-step-refused SlowDue p t e = refl
-step-refused Multi p t e = absurd (let z : _≡_ {A = ℕ} 0 1 = cc in omega arith)
-step-refused MultiDue p t e = refl
-step-refused Over p t e = absurd (let z : _≡_ {A = ℕ} 0 1 = cc in omega arith)
-
-pub next-refused : (p : Poller) (t : ℕ) → (openOf (p .round .phase) && not (dueOf (p .round .phase))) ≡ false → nextOf p t ≡ record { poller = p; step = Step.Refused }
-unfolding nextOf
-next-refused p t e = step-refused (p .round .phase) p t e
+  -- All that `next` promises.
+  pub next-all : (t : ℕ) {r : Stepped} → r ≡ nextOf p t → (r ≡ nextOf p t) × Answers p r
+  unfolding nextOf
+  next-all t e = (e, rw e (step-answers (p .round .phase) t))

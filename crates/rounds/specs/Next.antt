@@ -1,10 +1,11 @@
 -- What a round asks next, and its end: document 01, "Rounds (poller)", third to fifth paragraph.
 use mathlib.Core.Bool.{Bool, _&&_}
 use mathlib.Core.List.{[], _∷_}
-use Prim.Native.Nat.{ℕ, _+_, _-_}
-use lib.Dec.{ltb, leb, eqb}
+use Prim.Native.Nat.{ℕ, _-_}
+use lib.Dec.{leb, eqb}
 use lib.ListN.{getD}
 use Rattle.base.specs.Choice.{pick}
+use Rattle.base.specs.Count.{moreOf}
 use Rattle.config.specs.declared.Settings.{Settings}
 use Rattle.pid_list.specs.Rules.{nextOf as nextPid}
 use Rattle.plan.specs.Steps.{chunkOf, takeOf}
@@ -15,10 +16,6 @@ use Rattle.poller.specs.declared.Phase.the-variants.{Closed, First, FastDue, Te
 use Rattle.poller.specs.declared.Poller.{Poller}
 use Rattle.rounds.specs.declared.Step.{Step}
 use Rattle.rounds.specs.declared.Stepped.{Stepped}
-
--- One more; a count stops at 4,294,967,295.
-unfoldable pub moreOf : ℕ → ℕ
-moreOf n = pick (ltb n 4294967295) (n + 1) n
 
 -- A query names its PIDs and the ECU count kept then. The PIDs of a chunk have one count, that of the first.
 unfoldable pub issueOf : Poller → Phase → Chunk → Stepped
@@ -62,14 +59,16 @@ multiOf p =
     (endOf p)
     (issueOf (withPlan p (takeOf (p .plan) .plan)) MultiDue (takeOf (p .plan) .chunk))
 
+-- A round that is over ends. Where none is open or a result is due the box refuses by 13 and does not come here: that the
+-- definition ends the round there too says nothing of the box.
 abbrev pub stepIn : Phase → Poller → ℕ → Stepped
-stepIn Closed p t = record { poller = p; step = Step.Refused }
+stepIn Closed p t = endOf p
 stepIn First p t = firstOf p t
-stepIn FastDue p t = record { poller = p; step = Step.Refused }
+stepIn FastDue p t = endOf p
 stepIn Test p t = slowOf p t
-stepIn SlowDue p t = record { poller = p; step = Step.Refused }
+stepIn SlowDue p t = endOf p
 stepIn Multi p t = multiOf p
-stepIn MultiDue p t = record { poller = p; step = Step.Refused }
+stepIn MultiDue p t = endOf p
 stepIn Over p t = endOf p
 
 unfoldable pub nextOf : Poller → ℕ → Stepped

@@ -8,13 +8,11 @@ use Rattle.base.specs.Choice.{pick}
 use Rattle.link.specs.Rules.{isNo, lossOf}
 use Rattle.link.specs.declared.Features.{Features}
 use Rattle.link.specs.declared.Link.{Link}
-use Rattle.poller.specs.Calls.{done, refused}
-use Rattle.poller.specs.State.{dueOf, noQuery, pidsOf}
+use Rattle.poller.specs.State.{noQuery, pidsOf}
 use Rattle.rounds.specs.Numbers.{kindNumber}
 use Rattle.rounds.specs.declared.Kind.{Kind}
 use Rattle.poller.specs.declared.Phase.{Phase}
 use Rattle.poller.specs.declared.Phase.the-variants.{Closed, First, FastDue, Test, SlowDue, Multi, MultiDue, Over}
-use Rattle.poller.specs.declared.Changed.{Changed}
 use Rattle.rounds.specs.declared.Learnt.{Learnt}
 use Rattle.rounds.specs.declared.Lessons.{Lessons}
 use Rattle.rounds.specs.declared.Outcome.{Outcome}
@@ -58,14 +56,15 @@ linkAfter l known features gone = pick gone (lossOf (withKnown l known features)
 abbrev pub endsMulti : ℕ → Bool → Bool → Bool
 endsMulti count denied gone = gone || (denied && leb 2 count)
 
--- After the fast result comes the slow test; after the slow one the end; after a chunk the next one, or the end.
+-- After the fast result comes the slow test; after the slow one the end; after a chunk the next one, or the end. Where no result is
+-- due the phase stays.
 abbrev pub phaseAfter : Phase → Bool → Phase
-phaseAfter Closed over = Over
-phaseAfter First over = Over
+phaseAfter Closed over = Closed
+phaseAfter First over = First
 phaseAfter FastDue over = Test
-phaseAfter Test over = Over
+phaseAfter Test over = Test
 phaseAfter SlowDue over = Over
-phaseAfter Multi over = Over
+phaseAfter Multi over = Multi
 phaseAfter MultiDue over = pick over Over Multi
 phaseAfter Over over = Over
 
@@ -87,18 +86,16 @@ clockAfter Multi clock t = clock
 clockAfter MultiDue clock t = clock
 clockAfter Over clock t = clock
 
-unfoldable pub resultOf : Poller → ℕ → Outcome → Changed
-resultOf p t o =
-    pick (dueOf (p .round .phase))
-    (done (record {
-      fast = p .fast;
-      slow = p .slow;
-      clock = clockAfter (p .round .phase) (p .clock) t;
-      requests = p .requests;
-      counts = lessonsOf p o .counts;
-      link = linkAfter (p .link) (lessonsOf p o .known) (o .features) (isLost (o .kind));
-      settings = p .settings;
-      plan = p .plan;
-      round = roundAfter (p .round) (isNo (o .features .multi)) (isLost (o .kind));
-    }))
-    (refused p)
+-- Where no result is due the box refuses by 13 and does not come here.
+unfoldable pub resultOf : Poller → ℕ → Outcome → Poller
+resultOf p t o = record {
+  fast = p .fast;
+  slow = p .slow;
+  clock = clockAfter (p .round .phase) (p .clock) t;
+  requests = p .requests;
+  counts = lessonsOf p o .counts;
+  link = linkAfter (p .link) (lessonsOf p o .known) (o .features) (isLost (o .kind));
+  settings = p .settings;
+  plan = p .plan;
+  round = roundAfter (p .round) (isNo (o .features .multi)) (isLost (o .kind));
+}

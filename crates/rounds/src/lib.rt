@@ -11,7 +11,6 @@ pub mod result;
 pub enum Step {
     Ask,
     End(u32),
-    Refused,
 }
 
 pub struct Stepped {

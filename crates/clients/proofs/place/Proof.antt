@@ -2,14 +2,16 @@ use native.Mathlib.Omega.{arith}
 use Prim.Native.Nat.{_≤_, _-_}
 use mathlib.Core.Path.{_≡_}
 use lib.ListN.{length}
-use Rattle.clients.specs.Rules.{places}
-use Rattle.clients.specs.Laws.{Sought, sought-here, sought-next, sought-end}
+use borrow.Author.Tests.{eq-eqb, ne-eqb}
+use Rattle.base.specs.Search.{Sought, sought-here, sought-next, sought-end}
+use Rattle.clients.specs.Rules.{places, nobody}
+use Rattle.clients.specs.Laws.{number-search}
 use borrow.Author.Needs.{needs}
 use Rattle.clients.proofs.place.Statement.{statement}
 use Rattle.clients.proofs.place.Tie as tie
 
 abbrev Inv-loop : tie.InvT-loop
-Inv-loop number clients i₀ i = (i ≤ places) × Sought clients number i
+Inv-loop number clients i₀ i = (i ≤ places) × Sought (number-search number) clients i
 
 abbrev μ-loop : tie.MeasureT-loop
 μ-loop number clients i₀ i = places - i
@@ -31,7 +33,7 @@ returns c =
     let a = c .before .before .before .before in
     let s = a .before in
     let l = long s in
-    sought-here (s .args .t1) (s .args .number) (a .loop .i) (omega arith) (c .if1 .taken) (a .loop .inv .1)
+    sought-here (number-search _) (s .args .t1) (a .loop .i) nobody (omega arith) (eq-eqb _ _ (c .if1 .taken)) (a .loop .inv .1)
 
 add-i : tie.Need-add-i Inv-loop μ-loop
 add-i c = omega arith
@@ -44,13 +46,13 @@ loop-again c =
     let a = c .before .before .before .before in
     let s = a .before in
     let l = long s in
-    (omega arith, sought-next (s .args .t1) (s .args .number) (a .loop .i) (omega arith) (c .if1 .left) (a .loop .inv .1))
+    (omega arith, sought-next (number-search _) (s .args .t1) (a .loop .i) nobody (omega arith) (ne-eqb _ _ (c .if1 .left)) (a .loop .inv .1))
 
 returns-2 : tie.Need-returns-2 Inv-loop μ-loop
 returns-2 c =
     let s = c .before .before in
     let l = long s in
-    omega (arith, sought-end (s .args .t1) (s .args .number) (c .before .loop .i) (omega arith) (c .before .loop .inv .1))
+    omega (arith, sought-end (number-search (s .args .number)) (s .args .t1) (c .before .loop .i) (omega arith) (c .before .loop .inv .1))
 
 pub place-spec : {M : Type 1} → statement M
 place-spec =

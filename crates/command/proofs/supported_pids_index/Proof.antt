@@ -1,15 +1,17 @@
 -- `command::supported_pids_index` meets its contract. The invariant: what the search still has to find, from place i on.
 use borrow.Author.Needs.{needs}
-use Rattle.command.specs.Laws.{Sought, sought-here, sought-next, sought-end}
+use Rattle.base.specs.Search.{Sought, sought-here, sought-next, sought-end}
+use Rattle.command.specs.Laws.{text-search}
 use Rattle.command.specs.Classify.{rangeTexts}
 use native.Mathlib.Omega.{arith}
 use Prim.Native.Nat.{_≤_, _-_}
+use mathlib.Core.List.{[]}
 use mathlib.Core.Path.{_≡_, sym, _∙_}
 use Rattle.command.proofs.supported_pids_index.Statement.{statement}
 use Rattle.command.proofs.supported_pids_index.Tie as tie
 
 abbrev Inv-loop : tie.InvT-loop
-Inv-loop cmd i₀ i = (i ≤ 8) × Sought rangeTexts cmd i
+Inv-loop cmd i₀ i = (i ≤ 8) × Sought (text-search cmd) rangeTexts i
 
 abbrev μ-loop : tie.MeasureT-loop
 μ-loop cmd i₀ i = 8 - i
@@ -33,7 +35,7 @@ returns : tie.Need-returns Inv-loop μ-loop
 unfolding rangeTexts
 returns c =
     let a = c .before .before .before .before in
-    sought-here rangeTexts _ (a .loop .i) (omega arith) (sym (c .before .eq-ignore-ascii-case .ensures) ∙ c .if1 .taken) (a .loop .inv .1)
+    sought-here (text-search _) rangeTexts (a .loop .i) [] (omega arith) (sym (c .before .eq-ignore-ascii-case .ensures) ∙ c .if1 .taken) (a .loop .inv .1)
 
 add-i : tie.Need-add-i Inv-loop μ-loop
 add-i c = omega arith
@@ -45,14 +47,14 @@ loop-again : tie.Need-loop-again Inv-loop μ-loop
 unfolding rangeTexts
 loop-again c =
     let a = c .before .before .before .before in
-    (omega arith, sought-next rangeTexts _ (a .loop .i) (omega arith) (sym (c .before .eq-ignore-ascii-case .ensures) ∙ c .if1 .left) (a .loop .inv .1))
+    (omega arith, sought-next (text-search _) rangeTexts (a .loop .i) [] (omega arith) (sym (c .before .eq-ignore-ascii-case .ensures) ∙ c .if1 .left) (a .loop .inv .1))
 
 returns-2 : tie.Need-returns-2 Inv-loop μ-loop
 unfolding rangeTexts
 returns-2 c =
     let a = c .before in
     let e : a .loop .i ≡ 8 = omega arith in
-    sym e ∙ sought-end rangeTexts _ (a .loop .i) (omega arith) (a .loop .inv .1)
+    sym e ∙ sought-end (text-search _) rangeTexts (a .loop .i) (omega arith) (a .loop .inv .1)
 
 pub supported-pids-index-spec : {M : Type 1} → statement M
 supported-pids-index-spec =

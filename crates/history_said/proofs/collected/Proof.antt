@@ -5,18 +5,6 @@ use borrow.Author.Needs.{needs}
 use Rattle.history_said.proofs.collected.Statement.{statement}
 use Rattle.history_said.proofs.collected.Tie as tie
 
-reading-requires : tie.Need-reading-requires
-reading-requires c κs = tt
-
-byte-requires : tie.Need-byte-requires
-byte-requires c κs = tt
-
-number-requires : tie.Need-number-requires
-number-requires c κs = tt
-
-same-length : tie.Need-same-length
-same-length c = search needs
-
 returns : tie.Need-returns
 unfolding collectedText
 returns c =
@@ -27,4 +15,4 @@ returns c =
 
 pub collected-spec : {M : Type 1} → statement M
 collected-spec =
-    tie.close (tie.spec reading-requires byte-requires number-requires same-length returns)
+    tie.close (tie.spec (λ c κs. tt) (λ c κs. tt) (λ c κs. tt) (λ c. search needs) returns)

@@ -5,18 +5,6 @@ use borrow.Author.Needs.{needs}
 use Rattle.history_said.proofs.done.Statement.{statement}
 use Rattle.history_said.proofs.done.Tie as tie
 
-slice-aggregate-put : tie.Need-slice-aggregate-put
-slice-aggregate-put c = search needs
-
-put-requires : tie.Need-put-requires
-put-requires c κs = tt
-
-values-requires : tie.Need-values-requires
-values-requires c κs = tt
-
-same-length : tie.Need-same-length
-same-length c = search needs
-
 returns : tie.Need-returns
 unfolding doneText
 returns c =
@@ -26,4 +14,4 @@ returns c =
 
 pub done-spec : {M : Type 1} → statement M
 done-spec =
-    tie.close (tie.spec slice-aggregate-put put-requires values-requires same-length returns)
+    tie.close (tie.spec (λ c. search needs) (λ c κs. tt) (λ c κs. tt) (λ c. search needs) returns)

@@ -5,9 +5,6 @@ use native.Mathlib.Omega.{arith}
 use Rattle.history_said.proofs.held.Statement.{statement}
 use Rattle.history_said.proofs.held.Tie as tie
 
-size-requires : tie.Need-size-requires
-size-requires c κs = tt
-
 returns : tie.Need-returns
 unfolding heldOf sizeOf totalOf lengthsOf
 returns c = omega (arith, c .before .size .ensures)
@@ -17,4 +14,4 @@ unfolding heldOf sizeOf totalOf lengthsOf
 returns-2 c = omega (arith, c .before .size .ensures)
 
 pub held-spec : {M : Type 1} → statement M
-held-spec = tie.close (tie.spec size-requires returns returns-2)
+held-spec = tie.close (tie.spec (λ c κs. tt) returns returns-2)

@@ -5,12 +5,6 @@ use borrow.Author.Needs.{needs}
 use Rattle.history_said.proofs.mark.Statement.{statement}
 use Rattle.history_said.proofs.mark.Tie as tie
 
-byte-requires : tie.Need-byte-requires
-byte-requires c κs = tt
-
-same-length : tie.Need-same-length
-same-length c = search needs
-
 returns : tie.Need-returns
 unfolding markText
 returns c = rw (c .before .before .before .before .if1 .taken) (c .before .before .byte .ensures)
@@ -20,4 +14,4 @@ unfolding markText
 returns-2 c = rw (c .if1 .left) (wrote-none _ _)
 
 pub mark-spec : {M : Type 1} → statement M
-mark-spec = tie.close (tie.spec byte-requires same-length returns returns-2)
+mark-spec = tie.close (tie.spec (λ c κs. tt) (λ c. search needs) returns returns-2)

@@ -14,15 +14,6 @@ use Rattle.history_said.proofs.query.Tie as tie
 whole : (c : tie.Start) → length (c .args .query .pids) ≡ 6
 whole c = simp length-map at (c .good .1 .1 .0 .1 .1 .0 .1 .0 .1)
 
-listed-requires : tie.Need-listed-requires
-listed-requires c κs = tt
-
-slice-aggregate-put : tie.Need-slice-aggregate-put
-slice-aggregate-put c = search needs
-
-put-requires : tie.Need-put-requires
-put-requires c κs = tt
-
 array-share-prefix-pids : tie.Need-array-share-prefix-pids
 array-share-prefix-pids c =
     let a = c .before .before .before .before .before .before .before in
@@ -34,18 +25,6 @@ slice-aggregate-pids c =
     let a = c .before .before .before .before .before .before .before .before in
     let w = whole (a .before .before) in
     sym (length-take-le _ _ (omega (arith, a .listed .ensures)))
-
-pids-requires : tie.Need-pids-requires
-pids-requires c κs = tt
-
-byte-requires : tie.Need-byte-requires
-byte-requires c κs = tt
-
-ecu-requires : tie.Need-ecu-requires
-ecu-requires c κs = tt
-
-same-length : tie.Need-same-length
-same-length c = search needs
 
 returns : tie.Need-returns
 unfolding queryText
@@ -63,13 +42,13 @@ pub query-spec : {M : Type 1} → statement M
 query-spec =
     tie.close
     (tie.spec
-    listed-requires
-    slice-aggregate-put
-    put-requires
+    (λ c κs. tt)
+    (λ c. search needs)
+    (λ c κs. tt)
     array-share-prefix-pids
     slice-aggregate-pids
-    pids-requires
-    byte-requires
-    ecu-requires
-    same-length
+    (λ c κs. tt)
+    (λ c κs. tt)
+    (λ c κs. tt)
+    (λ c. search needs)
     returns)

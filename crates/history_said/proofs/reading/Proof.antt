@@ -5,24 +5,6 @@ use borrow.Author.Needs.{needs}
 use Rattle.history_said.proofs.reading.Statement.{statement}
 use Rattle.history_said.proofs.reading.Tie as tie
 
-slice-aggregate-put : tie.Need-slice-aggregate-put
-slice-aggregate-put c = search needs
-
-put-requires : tie.Need-put-requires
-put-requires c κs = tt
-
-pair-requires : tie.Need-pair-requires
-pair-requires c κs = tt
-
-byte-requires : tie.Need-byte-requires
-byte-requires c κs = tt
-
-reply-lines-requires : tie.Need-reply-lines-requires
-reply-lines-requires c κs = tt
-
-same-length : tie.Need-same-length
-same-length c = search needs
-
 returns : tie.Need-returns
 unfolding readingText
 returns c =
@@ -36,10 +18,10 @@ pub reading-spec : {M : Type 1} → statement M
 reading-spec =
     tie.close
     (tie.spec
-    slice-aggregate-put
-    put-requires
-    pair-requires
-    byte-requires
-    reply-lines-requires
-    same-length
+    (λ c. search needs)
+    (λ c κs. tt)
+    (λ c κs. tt)
+    (λ c κs. tt)
+    (λ c κs. tt)
+    (λ c. search needs)
     returns)

@@ -14,37 +14,16 @@ use Rattle.history_said.proofs.reply_lines.Tie as tie
 whole : (c : tie.Start) → length (c .args .t4) ≡ 8
 whole c = c .good .1 .1 .1 .0 .1 .0 .1
 
-counted-requires : tie.Need-counted-requires
-counted-requires c κs = tt
-
-array-share-prefix-lengths : tie.Need-array-share-prefix-lengths
-array-share-prefix-lengths c = search needs
-
 slice-aggregate-numbers : tie.Need-slice-aggregate-numbers
 slice-aggregate-numbers c =
     let a = c .before .before in
     let w = whole (a .before .before .before) in
     sym (length-take-le _ _ (omega (arith, a .counted .ensures)))
 
-numbers-requires : tie.Need-numbers-requires
-numbers-requires c κs = tt
-
-byte-requires : tie.Need-byte-requires
-byte-requires c κs = tt
-
-held-requires : tie.Need-held-requires
-held-requires c κs = tt
-
 slice-aggregate-bytes : tie.Need-slice-aggregate-bytes
 slice-aggregate-bytes c =
     let a = c .before .before in
     sym (length-take-le _ _ (omega (arith, a .held .ensures)))
-
-bytes-requires : tie.Need-bytes-requires
-bytes-requires c κs = tt
-
-same-length : tie.Need-same-length
-same-length c = search needs
 
 returns : tie.Need-returns
 unfolding linesText
@@ -63,13 +42,13 @@ pub reply-lines-spec : {M : Type 1} → statement M
 reply-lines-spec =
     tie.close
     (tie.spec
-    counted-requires
-    array-share-prefix-lengths
+    (λ c κs. tt)
+    (λ c. search needs)
     slice-aggregate-numbers
-    numbers-requires
-    byte-requires
-    held-requires
+    (λ c κs. tt)
+    (λ c κs. tt)
+    (λ c κs. tt)
     slice-aggregate-bytes
-    bytes-requires
-    same-length
+    (λ c κs. tt)
+    (λ c. search needs)
     returns)

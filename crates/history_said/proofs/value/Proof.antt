@@ -5,24 +5,6 @@ use borrow.Author.Needs.{needs}
 use Rattle.history_said.proofs.value.Statement.{statement}
 use Rattle.history_said.proofs.value.Tie as tie
 
-byte-requires : tie.Need-byte-requires
-byte-requires c κs = tt
-
-pair-requires : tie.Need-pair-requires
-pair-requires c κs = tt
-
-byte-requires-2 : tie.Need-byte-requires-2
-byte-requires-2 c κs = tt
-
-number-requires : tie.Need-number-requires
-number-requires c κs = tt
-
-mark-requires : tie.Need-mark-requires
-mark-requires c κs = tt
-
-same-length : tie.Need-same-length
-same-length c = search needs
-
 returns : tie.Need-returns
 unfolding valueText
 returns c =
@@ -37,10 +19,10 @@ pub value-spec : {M : Type 1} → statement M
 value-spec =
     tie.close
     (tie.spec
-    byte-requires
-    pair-requires
-    byte-requires-2
-    number-requires
-    mark-requires
-    same-length
+    (λ c κs. tt)
+    (λ c κs. tt)
+    (λ c κs. tt)
+    (λ c κs. tt)
+    (λ c κs. tt)
+    (λ c. search needs)
     returns)

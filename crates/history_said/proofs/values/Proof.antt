@@ -15,9 +15,6 @@ Inv-loop out₀ at count pids values notices n place₀ i₀ out place i = (i �
 abbrev μ-loop : tie.MeasureT-loop
 μ-loop out₀ at count pids values notices n place₀ i₀ out place i = n - i
 
-listed-requires : tie.Need-listed-requires Inv-loop μ-loop
-listed-requires c κs = tt
-
 loop-holds : tie.Need-loop-holds Inv-loop μ-loop
 loop-holds c =
     let n = c .listed .result in
@@ -35,9 +32,6 @@ array-read-value-2 c = omega arith
 
 array-read-value-3 : tie.Need-array-read-value-3 Inv-loop μ-loop
 array-read-value-3 c = omega arith
-
-value-requires : tie.Need-value-requires Inv-loop μ-loop
-value-requires c κs = tt
 
 add-i : tie.Need-add-i Inv-loop μ-loop
 add-i c = omega arith
@@ -69,13 +63,13 @@ values-spec =
     (tie.spec
     Inv-loop
     μ-loop
-    listed-requires
+    (λ c κs. tt)
     loop-holds
     array-read-value
     mul-value
     array-read-value-2
     array-read-value-3
-    value-requires
+    (λ c κs. tt)
     add-i
     loop-less
     loop-again

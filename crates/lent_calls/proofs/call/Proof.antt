@@ -47,8 +47,8 @@ use Rattle.config.specs.declared.Profiles.{Profiles}
 use Rattle.config.proofs.Profile as R
 use Rattle.config.proofs.Profiles as P
 use Rattle.config.proofs.Profiles.Laws as P′
-use Rattle.dispatch.specs.Dispatch.{callOf, areaOf}
-use Rattle.obd2.specs.History.{step as stepOf, Fit}
+use Rattle.dispatch.specs.Dispatch.{callOf, areaOf, Promised}
+use Rattle.obd2.specs.History.{step as stepOf}
 use Rattle.obd2.specs.declared.State.{State}
 use Rattle.obd2.specs.declared.Answered.{Answered}
 use Rattle.obd2.specs.declared.call.Call.{Call}
@@ -198,8 +198,8 @@ module _ {M : Type 1} (𝓤 : URA M) (H : Heap 𝓤) (A : Atoms 𝓤) (W : Given
   abbrev areaAfter : Brought → List ℕ
   areaAfter c = areaOf s t k c (y .now) (z .now)
 
-  abbrev Made : Brought → Type 0
-  Made c = Fit (callOf t k c (y .now) (z .now))
+  abbrev Made : Answered → Brought → Type 0
+  Made r c = Promised s (callOf t k c (y .now) (z .now)) (r .answer)
 
   abbrev all : Brought
   all = bringing b (copiedOf (x .now))
@@ -208,7 +208,7 @@ module _ {M : Type 1} (𝓤 : URA M) (H : Heap 𝓤) (A : Atoms 𝓤) (W : Given
   abbrev Had : Answered → Val → List ℕ → List (Item 𝓤)
   Had r w zs = ‵ (O.the-row .own r (w ∷ [])) ∷ first ∷ tokens ∷ ‵ (finally u8 (z .name) zs) ∷ []
 
-  exits : (r : Answered) (w : Val) (zs : List ℕ) → r ≡ answerOf all → zs ≡ areaAfter all → Made all → length zs ≡ length (z .now) → ent 𝓤 (⋆ 𝓤 H A (Had r w zs)) (Post w)
+  exits : (r : Answered) (w : Val) (zs : List ℕ) → r ≡ answerOf all → zs ≡ areaAfter all → Made r all → length zs ≡ length (z .now) → ent 𝓤 (⋆ 𝓤 H A (Had r w zs)) (Post w)
   exits r w zs e f g long =
       qed W (Had r w zs) ∵
       suffices ! _ (ends-at 𝓤 H A call.ended stayed (call.clauses 𝓤 H A at-mem run) W bound w r (tt, (tt, (tt, (tt, (tt, (tt, (zs, tt))))))) (tt, (tt, (tt, (tt, (tt, (tt, (long, tt)))))))) $
@@ -264,8 +264,8 @@ module _ {M : Type 1} (𝓤 : URA M) (H : Heap 𝓤) (A : Atoms 𝓤) (W : Given
         use1 W (later (some (λ (r : Answered). (tokens ⊛ ‵ (O.the-row .own r (w ∷ []))) ⊛ raw (ensured 𝓤 H A over.ended (over.clauses 𝓤 H A at-mem run) (κ₁, (κ₂, tt)) (held c v) tt r)))) (id⊢ 𝓤 _) $
         await ! tt $ pick ! (λ r. split ! $ move ! (1 ∷ []) $
         use1 W (some (λ (ws : Unit {0} × (Unit {0} × (Unit {0} × (Unit {0} × (Unit {0} × (List ℕ × Unit {0})))))).
-        ‵ (lasts over.ended (κ₁, (κ₂, tt)) (held c v) ws) ⊛ raw (fact 𝓤 (r ≡ answerOf c)) ⊛ raw (fact 𝓤 (ws .1 .1 .1 .1 .1 .0 ≡ areaAfter c)) ⊛ raw (fact 𝓤 (Made c)))) (id⊢ 𝓤 _) $
-        pick ! (λ ws. split ! $ move ! (1 ∷ []) $ split ! $ heard ! (r ≡ answerOf c) (λ r-is. split ! $ heard ! (ws .1 .1 .1 .1 .1 .0 ≡ areaAfter c) (λ z-is. heard ! (Made c) (λ made.
+        ‵ (lasts over.ended (κ₁, (κ₂, tt)) (held c v) ws) ⊛ raw (fact 𝓤 (r ≡ answerOf c)) ⊛ raw (fact 𝓤 (ws .1 .1 .1 .1 .1 .0 ≡ areaAfter c)) ⊛ raw (fact 𝓤 (Made r c)))) (id⊢ 𝓤 _) $
+        pick ! (λ ws. split ! $ move ! (1 ∷ []) $ split ! $ heard ! (r ≡ answerOf c) (λ r-is. split ! $ heard ! (ws .1 .1 .1 .1 .1 .0 ≡ areaAfter c) (λ z-is. heard ! (Made r c) (λ made.
         -- [what is last; the tokens and the answer; the first token; _11; …; .. _0; …]
         fsplit ! $ drop ! $ fsplit ! $ drop ! $ fsplit ! $ drop ! $ fsplit ! $ drop ! $ fsplit ! $ drop ! $ fsplit ! $ fsplit ! $ move ! (1 ∷ []) $ feqL ! (λ long.
         move ! (2 ∷ []) $ split ! $ move ! (1 ∷ []) $ peeks ! O.the-row (Is O.the-row) (shows 𝓤 H A O.the-row) r (w ∷ []) (λ r-fits.
@@ -274,7 +274,7 @@ module _ {M : Type 1} (𝓤 : URA M) (H : Heap 𝓤) (A : Atoms 𝓤) (W : Given
         forget ! 5 refl $ forget ! 7 refl $ forget ! 9 refl $ forget ! 11 refl $ forget ! 13 refl $ forget ! 15 refl $ forget ! 17 refl $ forget ! 19 refl $ forget ! 21 refl $ forget ! 23 refl $ forget ! 25 refl $ forget ! 27 refl $
         move ! (27 ∷ 28 ∷ []) $ free1 ! $ move ! (25 ∷ 26 ∷ []) $ free1 ! $ move ! (23 ∷ 24 ∷ []) $ free1 ! $ move ! (21 ∷ 22 ∷ []) $ free1 ! $ move ! (19 ∷ 20 ∷ []) $ free1 ! $ move ! (17 ∷ 18 ∷ []) $ free1 ! $
         move ! (15 ∷ 16 ∷ []) $ free1 ! $ move ! (13 ∷ 14 ∷ []) $ free1 ! $ move ! (11 ∷ 12 ∷ []) $ free1 ! $ move ! (9 ∷ 10 ∷ []) $ free1 ! $ move ! (7 ∷ 8 ∷ []) $ free1 ! $ move ! (5 ∷ 6 ∷ []) $ free1 ! $ free0 ! $
-        keep ! (0 ∷ 4 ∷ 1 ∷ 2 ∷ []) $ by ! (exits r w (ws .1 .1 .1 .1 .1 .0) (r-is ∙ ap answerOf (c-is ∙ ap (bringing b) d-is)) (z-is ∙ ap areaAfter (c-is ∙ ap (bringing b) d-is)) (subst Made (c-is ∙ ap (bringing b) d-is) made) long)))))))))))))))))))))))))))
+        keep ! (0 ∷ 4 ∷ 1 ∷ 2 ∷ []) $ by ! (exits r w (ws .1 .1 .1 .1 .1 .0) (r-is ∙ ap answerOf (c-is ∙ ap (bringing b) d-is)) (z-is ∙ ap areaAfter (c-is ∙ ap (bringing b) d-is)) (subst (Made r) (c-is ∙ ap (bringing b) d-is) made) long)))))))))))))))))))))))))))
 
 module _ {M : Type 1} (𝓤 : URA M) (H : Heap 𝓤) (A : Atoms 𝓤) (W : Given 𝓤 H A) (at-mem : Memory → SProp 𝓤) (run : Routine → Fun 𝓤) (𝓣 : Tables 𝓤 H)
     (known-copied : Triple 𝓤 (𝓣 .C #copied) (Copied 𝓤 H A at-mem run)) (known-brings : Triple 𝓤 (𝓣 .C #brings) (Brings 𝓤 H A at-mem run))

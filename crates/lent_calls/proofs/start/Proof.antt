@@ -49,7 +49,7 @@ use Rattle.config.proofs.Profiles.Laws as P′
 use Rattle.config.proofs.Settings as S
 use Rattle.config.proofs.Settings.Laws as S′
 use Rattle.obd2.specs.Answers.{numberIn}
-use Rattle.obd2.specs.Calls.{startOf}
+use Rattle.obd2.specs.History.{startOf}
 use Rattle.obd2.specs.Refusals.{startRefusal}
 use Rattle.obd2.specs.declared.Answered.{Answered}
 use Rattle.obd2.proofs.Answered as O

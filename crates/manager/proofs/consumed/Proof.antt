@@ -1,4 +1,4 @@
-use Rattle.manager.specs.Calls.{consumedCallOf, entrySet, entryTold}
+use Rattle.manager.specs.Calls.{notedOf, after, sent, entrySet, entryTold}
 use borrow.Author.Needs.{needs}
 use Rattle.manager.proofs.consumed.Statement.{statement}
 use Rattle.manager.proofs.consumed.Tie as tie
@@ -30,14 +30,11 @@ empty-requires c κs = search needs
 told-requires : tie.Need-told-requires
 told-requires c κs = search needs
 
-finish-requires : tie.Need-finish-requires
-finish-requires c κs = search needs
-
 returns : tie.Need-returns
-unfolding consumedCallOf entrySet entryTold
+unfolding notedOf after sent entrySet entryTold
 returns c =
-    let d = c .before .before .before in
-    rw (c .finish .ensures, c .before .told .ensures, c .before .before .empty .ensures, d .noted .ensures, d .before .before .consumed .ensures, d .before .before .before .promotes .ensures)
+    let d = c .before .before in
+    rw (c .told .ensures, c .before .empty .ensures, d .noted .ensures, d .before .before .consumed .ensures, d .before .before .before .promotes .ensures)
 
 pub consumed-spec : {M : Type 1} → statement M
 consumed-spec =
@@ -52,5 +49,4 @@ consumed-spec =
     noted-requires
     empty-requires
     told-requires
-    finish-requires
     returns)

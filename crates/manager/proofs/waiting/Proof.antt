@@ -1,4 +1,4 @@
-use Rattle.manager.specs.Calls.{waitingCallOf, entrySet, entryTold}
+use Rattle.manager.specs.Calls.{notedOf, after, sent, entrySet, entryTold}
 use borrow.Author.Needs.{needs}
 use Rattle.manager.proofs.waiting.Statement.{statement}
 use Rattle.manager.proofs.waiting.Tie as tie
@@ -24,14 +24,11 @@ empty-requires c κs = search needs
 told-requires : tie.Need-told-requires
 told-requires c κs = search needs
 
-finish-requires : tie.Need-finish-requires
-finish-requires c κs = search needs
-
 returns : tie.Need-returns
-unfolding waitingCallOf entrySet entryTold
+unfolding notedOf after sent entrySet entryTold
 returns c =
-    let d = c .before .before .before in
-    rw (c .finish .ensures, c .before .told .ensures, c .before .before .empty .ensures, d .waiting .ensures)
+    let d = c .before .before in
+    rw (c .told .ensures, c .before .empty .ensures, d .waiting .ensures)
 
 pub waiting-spec : {M : Type 1} → statement M
 waiting-spec =
@@ -44,5 +41,4 @@ waiting-spec =
     element-set-from-after
     empty-requires
     told-requires
-    finish-requires
     returns)

@@ -50,9 +50,9 @@ use Rattle.config.specs.declared.Profiles.{Profiles}
 use Rattle.config.proofs.Profile as R
 use Rattle.config.proofs.Profiles as P
 use Rattle.config.proofs.Profiles.Laws as P′
-use Rattle.dispatch.specs.Dispatch.{callOf, areaOf}
+use Rattle.dispatch.specs.Dispatch.{callOf, areaOf, Promised}
 use Rattle.lent_calls.specs.Bringing.{bringing}
-use Rattle.obd2.specs.History.{step, Fit}
+use Rattle.obd2.specs.History.{step}
 use Rattle.obd2.specs.declared.State.{State}
 use Rattle.obd2.specs.declared.Answered.{Answered}
 use Rattle.obd2.specs.declared.call.Call.{Call}
@@ -236,7 +236,7 @@ module _ {M : Type 1} (𝓤 : URA M) (H : Heap 𝓤) (A : Atoms 𝓤) (W : Given
         use1 W (some (λ (ws : Unit {0} × (Unit {0} × (Unit {0} × (Unit {0} × (Unit {0} × (Unit {0} × (List ℕ × Unit {0}))))))).
         ‵ (lasts lending.ended (α ∷ [], (κ₁, (κ₂, tt))) (handed α l₈ xs n γ) ws) ⊛ raw (fact 𝓤 (r ≡ step s (callOf t k (all α l₈ xs n γ) (y .now) (z .now))))
         ⊛ raw (fact 𝓤 (ws .1 .1 .1 .1 .1 .1 .0 ≡ areaOf s t k (all α l₈ xs n γ) (y .now) (z .now)))
-        ⊛ raw (fact 𝓤 (Fit (callOf t k (all α l₈ xs n γ) (y .now) (z .now)))))) (id⊢ 𝓤 _) $
+        ⊛ raw (fact 𝓤 (Promised s (callOf t k (all α l₈ xs n γ) (y .now) (z .now)) (r .answer))))) (id⊢ 𝓤 _) $
         -- [what is last; the tokens and the answer; what the lender keeps; true; _14; …; .. _9; …; _7; …; .. _0; …]
         pick ! (λ ws. split ! $ move ! (1 ∷ []) $ drop ! $ fsplit ! $ drop ! $ fsplit ! $ drop ! $ fsplit ! $ drop ! $ fsplit ! $ drop ! $ fsplit ! $ drop ! $ fsplit ! $ drop ! $ fsplit ! $ fsplit ! $ move ! (1 ∷ []) $ feqL ! (λ long.
         move ! (2 ∷ []) $ split ! $ move ! (1 ∷ []) $ peeks ! O.the-row (Is O.the-row) (shows 𝓤 H A O.the-row) r (w ∷ []) (λ r-fits. land ! (from ! (stop !)) (init ! 33 refl (O-typed r w r-fits)) $

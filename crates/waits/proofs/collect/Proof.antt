@@ -147,8 +147,8 @@ mul-idle c = search needs
 element-set-from-idle : tie.Need-element-set-from-idle
 element-set-from-idle c = search needs
 
-since-requires : tie.Need-since-requires
-since-requires c κs = search needs
+elapsed-requires : tie.Need-elapsed-requires
+elapsed-requires c κs = search needs
 
 same-length : tie.Need-same-length
 same-length c = search needs
@@ -169,7 +169,7 @@ returns-5 c =
     let p = collect-done (a .t1) (a .time) (a .number) (a .area .now) (collect-none (a .t1) (a .number) _ (known g) (waits e) (came f) (rw (its-reply g) at s)) in
     let t = i .end-wait .ensures ∙ ap idledOf (i .before .take .ensures ∙ ap (takenOf (seen g .pid)) (seat-client (a .t1) (a .number) (k .seat .result) (k .seat .ensures) (g .if1 .left))) in
     let d = seat-put (a .t1) (a .number) (k .seat .result) (k .seat .ensures) (g .if1 .left) (i .end-wait .result) (idledOf (takenOf (seen g .pid) (clientOf (a .t1) (a .number)))) t in (
-      collected-is (a .t1) _ (a .time) (a .number) (seen g) (c .before .since .result) (its-wait g) (c .before .since .ensures) d ∙ p .0,
+      collected-is (a .t1) _ (a .time) (a .number) (seen g) (c .before .elapsed .result) (its-wait g) (c .before .elapsed .ensures) d ∙ p .0,
       y .copy .ensures ∙ ap (λ (r : Reply). filledOf r (a .area .now)) (its-reply g) ∙ p .1,
     )
 
@@ -198,6 +198,6 @@ collect-spec =
     end-wait-requires
     mul-idle
     element-set-from-idle
-    since-requires
+    elapsed-requires
     same-length
     returns-5)

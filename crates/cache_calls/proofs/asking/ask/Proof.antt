@@ -1,78 +1,33 @@
 use mathlib.Core.Path.{sym, _∙_}
-use Rattle.cache_calls.specs.Numbers.{ask-all}
-use Rattle.cache_calls.specs.Cases.{ask-late, ask-kept, ask-area, ask-refused, ask-done}
+use Rattle.cache.specs.Rules.{askRefusal, askOf, askArea, settled}
+use Rattle.obd2.specs.Call.{ask}
+use Rattle.obd2.specs.Done.{cacheBy, doneOf}
+use Rattle.obd2.specs.History.{lentBy}
+use Rattle.obd2.specs.Keeps.{told-refused, told-done}
+use Rattle.obd2.specs.Refusals.{cacheRows, rowsOf, rowRefusal}
 use borrow.Author.Needs.{needs}
 use Rattle.cache_calls.proofs.asking.ask.Statement.{statement}
 use Rattle.cache_calls.proofs.asking.ask.Tie as tie
 
-bad-time-requires : tie.Need-bad-time-requires
-bad-time-requires c κs = search needs
-
-refuse-requires : tie.Need-refuse-requires
-refuse-requires c κs = search needs
-
 returns : tie.Need-returns
+unfolding askRefusal askArea lentBy cacheRows rowsOf rowRefusal
 returns c =
-    let g = c .before in
-    let a = g .before .before .before .before .args in
-    let e = sym (g .before .bad-time .ensures) ∙ g .if1 .taken in
-    ask-all (a .state) (a .time) (a .number) (a .cmd .now) (a .area .now) (c .refuse .ensures ∙ ask-late (a .state) (a .time) (a .number) (a .cmd .now) (a .area .now) e) (ask-kept (a .state) (a .time) (a .number) (a .cmd .now) (a .area .now) e)
-
-ask-requires : tie.Need-ask-requires
-ask-requires c κs = search needs
-
-refusal-in-requires : tie.Need-refusal-in-requires
-refusal-in-requires c κs = search needs
-
-refuse-requires-2 : tie.Need-refuse-requires-2
-refuse-requires-2 c κs = search needs
-
-same-length : tie.Need-same-length
-same-length c = search needs
+    let k = c .before in
+    let w = k .before .before .before .before in
+    let a = w .before .before .before .before .before .before .args in
+    (told-refused (a .state) (ask (a .time) (a .number) (a .cmd .now) (a .area .now)) (w .ask .result .refusal) (w .ask .ensures .1 .1) (k .if1 .taken) (c .refuse .ensures), w .ask .ensures .1 .0)
 
 returns-2 : tie.Need-returns-2
+unfolding askRefusal askArea askOf settled lentBy cacheRows rowsOf rowRefusal cacheBy doneOf
 returns-2 c =
-    let k = c .before in
-    let n = k .before in
-    let w = n .before .before .before in
-    let g = w .before .before .before .before in
-    let a = g .before .before .before .before .args in
-    let e = sym (g .before .bad-time .ensures) ∙ g .if1 .left in
-    ask-all (a .state) (a .time) (a .number) (a .cmd .now) (a .area .now) (c .refuse2 .ensures ∙ ask-refused (a .state) (a .time) (a .number) (a .cmd .now) (a .area .now) e (w .ask .result) (w .ask .ensures .0) (n .refusal-in .result) (n .refusal-in .ensures) (k .if2 .taken)) (ask-area (a .state) (a .time) (a .number) (a .cmd .now) (a .area .now) e _ (w .ask .ensures .1 .0))
-
-ask-answer-requires : tie.Need-ask-answer-requires
-ask-answer-requires c κs = search needs
-
-lines-of-requires : tie.Need-lines-of-requires
-lines-of-requires c κs = search needs
-
-same-length-2 : tie.Need-same-length-2
-same-length-2 c = search needs
-
-returns-3 : tie.Need-returns-3
-returns-3 c =
-    let s = c .before .before in
-    let k = s .before .before in
-    let n = k .before in
-    let w = n .before .before .before in
-    let g = w .before .before .before .before in
-    let a = g .before .before .before .before .args in
-    let e = sym (g .before .bad-time .ensures) ∙ g .if1 .left in
-    ask-all (a .state) (a .time) (a .number) (a .cmd .now) (a .area .now) (ask-done (a .state) (a .time) (a .number) (a .cmd .now) (a .area .now) e (w .ask .result) (w .ask .ensures .0) (n .refusal-in .result) (n .refusal-in .ensures) (k .if2 .left) (s .ask-answer .result) (s .ask-answer .ensures) (c .lines-of .result) (c .lines-of .ensures)) (ask-area (a .state) (a .time) (a .number) (a .cmd .now) (a .area .now) e _ (w .ask .ensures .1 .0))
+    let k = c .before .before .before .before in
+    let w = k .before .before .before .before in
+    let a = w .before .before .before .before .before .before .args in
+    let z = sym (w .ask .ensures .1 .1) ∙ k .if1 .left in (
+      told-done (a .state) (ask (a .time) (a .number) (a .cmd .now) (a .area .now)) (w .ask .result .refusal) (w .ask .ensures .1 .1) (k .if1 .left)
+          (rw (c .accept .ensures, c .before .lines-of .ensures, w .ask .ensures .0, z)),
+      w .ask .ensures .1 .0,
+    )
 
 pub ask-spec : {M : Type 1} → statement M
-ask-spec =
-    tie.close
-    (tie.spec
-    bad-time-requires
-    refuse-requires
-    returns
-    ask-requires
-    refusal-in-requires
-    refuse-requires-2
-    same-length
-    returns-2
-    ask-answer-requires
-    lines-of-requires
-    same-length-2
-    returns-3)
+ask-spec = tie.close (tie.spec (λ c κs. search needs) (λ c κs. search needs) (λ c. search needs) returns (λ c κs. search needs) (λ c κs. search needs) (λ c. search needs) returns-2)

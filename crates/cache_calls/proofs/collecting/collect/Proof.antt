@@ -1,67 +1,37 @@
-use mathlib.Core.Path.{sym, _∙_}
-use Rattle.cache_calls.specs.Numbers.{collect-all}
-use Rattle.cache_calls.specs.Cases.{collect-late, collect-kept, collect-area, collect-refused, collect-done}
+use mathlib.Core.Path.{ap, sym, _∙_}
+use Rattle.cache.specs.Rules.{filledBy}
+use Rattle.obd2.specs.Call.{collect}
+use Rattle.obd2.specs.Done.{cacheBy, doneOf}
+use Rattle.obd2.specs.History.{lentBy}
+use Rattle.obd2.specs.Keeps.{told-refused, told-done}
+use Rattle.obd2.specs.Refusals.{cacheRows, rowsOf, rowRefusal}
+use Rattle.waits.specs.Laws.{collect-refusal}
+use Rattle.waits.specs.Rules.{collectRefusal, collectOf, collectArea}
+use Rattle.waits.specs.declared.Collected.{Collected}
 use borrow.Author.Needs.{needs}
 use Rattle.cache_calls.proofs.collecting.collect.Statement.{statement}
 use Rattle.cache_calls.proofs.collecting.collect.Tie as tie
 
-bad-time-requires : tie.Need-bad-time-requires
-bad-time-requires c κs = search needs
-
-refuse-requires : tie.Need-refuse-requires
-refuse-requires c κs = search needs
-
 returns : tie.Need-returns
+unfolding collectRefusal collectArea filledBy lentBy cacheRows rowsOf rowRefusal
 returns c =
-    let g = c .before in
-    let a = g .before .before .before .args in
-    let e = sym (g .before .bad-time .ensures) ∙ g .if1 .taken in
-    collect-all (a .state) (a .time) (a .number) (a .area .now) (c .refuse .ensures ∙ collect-late (a .state) (a .time) (a .number) (a .area .now) e) (collect-kept (a .state) (a .time) (a .number) (a .area .now) e)
-
-collect-requires : tie.Need-collect-requires
-collect-requires c κs = search needs
-
-refuse-requires-2 : tie.Need-refuse-requires-2
-refuse-requires-2 c κs = search needs
-
-same-length : tie.Need-same-length
-same-length c = search needs
-
-returns-2 : tie.Need-returns-2
-returns-2 c =
     let k = c .before in
     let w = k .before .before .before .before in
-    let g = w .before .before .before in
-    let a = g .before .before .before .args in
-    let e = sym (g .before .bad-time .ensures) ∙ g .if1 .left in
-    collect-all (a .state) (a .time) (a .number) (a .area .now) (c .refuse2 .ensures ∙ collect-refused (a .state) (a .time) (a .number) (a .area .now) e (w .collect .result) (w .collect .ensures .0) (k .if2 .taken)) (collect-area (a .state) (a .time) (a .number) (a .area .now) e _ (w .collect .ensures .1))
+    let a = w .before .before .before .before .args in
+    let e = ap (λ (x : Collected). x .refusal) (w .collect .ensures .0) ∙ collect-refusal (a .state .desk) (a .time) (a .number) _ in
+    (told-refused (a .state) (collect (a .time) (a .number) (a .area .now)) (w .collect .result .refusal) e (k .if1 .taken) (c .refuse .ensures), w .collect .ensures .1)
 
-lines-of-requires : tie.Need-lines-of-requires
-lines-of-requires c κs = search needs
-
-same-length-2 : tie.Need-same-length-2
-same-length-2 c = search needs
-
-returns-3 : tie.Need-returns-3
-returns-3 c =
-    let k = c .before .before .before in
+returns-2 : tie.Need-returns-2
+unfolding collectRefusal collectArea collectOf filledBy lentBy cacheRows rowsOf rowRefusal cacheBy doneOf
+returns-2 c =
+    let k = c .before .before .before .before in
     let w = k .before .before .before .before in
-    let g = w .before .before .before in
-    let a = g .before .before .before .args in
-    let e = sym (g .before .bad-time .ensures) ∙ g .if1 .left in
-    collect-all (a .state) (a .time) (a .number) (a .area .now) (collect-done (a .state) (a .time) (a .number) (a .area .now) e (w .collect .result) (w .collect .ensures .0) (k .if2 .left) (c .lines-of .result) (c .lines-of .ensures)) (collect-area (a .state) (a .time) (a .number) (a .area .now) e _ (w .collect .ensures .1))
+    let a = w .before .before .before .before .args in
+    let e = ap (λ (x : Collected). x .refusal) (w .collect .ensures .0) ∙ collect-refusal (a .state .desk) (a .time) (a .number) _ in (
+      told-done (a .state) (collect (a .time) (a .number) (a .area .now)) (w .collect .result .refusal) e (k .if1 .left)
+          (rw (c .accept .ensures, c .before .lines-of .ensures, w .collect .ensures .0, sym e ∙ k .if1 .left)),
+      w .collect .ensures .1,
+    )
 
 pub collect-spec : {M : Type 1} → statement M
-collect-spec =
-    tie.close
-    (tie.spec
-    bad-time-requires
-    refuse-requires
-    returns
-    collect-requires
-    refuse-requires-2
-    same-length
-    returns-2
-    lines-of-requires
-    same-length-2
-    returns-3)
+collect-spec = tie.close (tie.spec (λ c κs. search needs) (λ c κs. search needs) (λ c. search needs) returns (λ c κs. search needs) (λ c κs. search needs) (λ c. search needs) returns-2)

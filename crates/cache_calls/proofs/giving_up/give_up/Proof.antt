@@ -1,48 +1,33 @@
-use mathlib.Core.Path.{sym, _∙_}
-use Rattle.cache_calls.specs.Numbers.{give-up-all}
-use Rattle.cache_calls.specs.Cases.{give-up-late, give-up-refused, give-up-done}
+use mathlib.Core.Path.{ap, sym, _∙_}
+use Rattle.obd2.specs.Call.{giveUp}
+use Rattle.obd2.specs.Done.{cacheBy, doneOf}
+use Rattle.obd2.specs.Keeps.{told-refused, told-done}
+use Rattle.obd2.specs.Refusals.{cacheRows, rowsOf, rowRefusal}
+use Rattle.waits.specs.Laws.{give-up-refusal}
+use Rattle.waits.specs.Rules.{giveUpRefusal, giveUpOf}
+use Rattle.waits.specs.declared.GivenUp.{GivenUp}
 use borrow.Author.Needs.{needs}
 use Rattle.cache_calls.proofs.giving_up.give_up.Statement.{statement}
 use Rattle.cache_calls.proofs.giving_up.give_up.Tie as tie
 
-bad-time-requires : tie.Need-bad-time-requires
-bad-time-requires c κs = search needs
-
-refuse-requires : tie.Need-refuse-requires
-refuse-requires c κs = search needs
-
 returns : tie.Need-returns
+unfolding giveUpRefusal cacheRows rowsOf rowRefusal
 returns c =
-    let g = c .before in
-    let a = g .before .before .args in
-    give-up-all (a .state) (a .time) (a .number) (c .refuse .ensures ∙ give-up-late (a .state) (a .time) (a .number) (sym (g .before .bad-time .ensures) ∙ g .if1 .taken))
-
-give-up-requires : tie.Need-give-up-requires
-give-up-requires c κs = search needs
-
-refuse-requires-2 : tie.Need-refuse-requires-2
-refuse-requires-2 c κs = search needs
-
-returns-2 : tie.Need-returns-2
-returns-2 c =
     let k = c .before in
     let w = k .before .before in
-    let g = w .before .before in
-    let a = g .before .before .args in
-    give-up-all (a .state) (a .time) (a .number) (c .refuse2 .ensures ∙ give-up-refused (a .state) (a .time) (a .number) (sym (g .before .bad-time .ensures) ∙ g .if1 .left) (w .give-up .result) (w .give-up .ensures) (k .if2 .taken))
+    let a = w .before .before .args in
+    let e = ap (λ (x : GivenUp). x .refusal) (w .give-up .ensures) ∙ give-up-refusal (a .state .desk) (a .number) in
+    told-refused (a .state) (giveUp (a .time) (a .number)) (w .give-up .result .refusal) e (k .if1 .taken) (c .refuse .ensures)
 
-no-details-requires : tie.Need-no-details-requires
-no-details-requires c κs = search needs
-
-returns-3 : tie.Need-returns-3
-returns-3 c =
-    let k = c .before .before in
+returns-2 : tie.Need-returns-2
+unfolding giveUpRefusal giveUpOf cacheRows rowsOf rowRefusal cacheBy doneOf
+returns-2 c =
+    let k = c .before .before .before in
     let w = k .before .before in
-    let g = w .before .before in
-    let a = g .before .before .args in
-    give-up-all (a .state) (a .time) (a .number) (give-up-done (a .state) (a .time) (a .number) (sym (g .before .bad-time .ensures) ∙ g .if1 .left) (w .give-up .result) (w .give-up .ensures) (k .if2 .left) (c .no-details .result) (c .no-details .ensures))
+    let a = w .before .before .args in
+    let e = ap (λ (x : GivenUp). x .refusal) (w .give-up .ensures) ∙ give-up-refusal (a .state .desk) (a .number) in
+    told-done (a .state) (giveUp (a .time) (a .number)) (w .give-up .result .refusal) e (k .if1 .left)
+    (rw (c .accept .ensures, c .before .no-details .ensures, w .give-up .ensures, sym e ∙ k .if1 .left))
 
 pub give-up-spec : {M : Type 1} → statement M
-give-up-spec =
-    tie.close
-    (tie.spec bad-time-requires refuse-requires returns give-up-requires refuse-requires-2 returns-2 no-details-requires returns-3)
+give-up-spec = tie.close (tie.spec (λ c κs. search needs) (λ c κs. search needs) returns (λ c κs. search needs) (λ c κs. search needs) returns-2)

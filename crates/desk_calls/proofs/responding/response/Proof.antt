@@ -1,86 +1,52 @@
-use mathlib.Core.Path.{sym, _∙_}
-use Rattle.desk_calls.specs.Numbers.{response-all}
-use Rattle.desk_calls.specs.Cases.{response-late, response-refused, response-crowded, response-done}
+use mathlib.Core.Path.{_≡_, ap, _∙_}
+use Rattle.base.specs.Refusal.{firstOf}
+use Rattle.delivery.specs.Laws.{response-refusal}
+use Rattle.delivery.specs.Rules.{responseRefusal, responseOf}
+use Rattle.delivery.specs.declared.Answered.{Answered as Delivered}
+use Rattle.manager_calls.specs.Settle.{sent-refused, sent-done, own-refused, own-settled}
+use Rattle.obd2.specs.Call.{Respond}
+use Rattle.obd2.specs.Done.{managerBy}
+use Rattle.obd2.specs.Refusals.{managerRows}
+use Rattle.obd2.specs.declared.State.{State}
+use Rattle.reply.specs.declared.Response.{Response}
 use borrow.Author.Needs.{needs}
 use Rattle.desk_calls.proofs.responding.response.Statement.{statement}
 use Rattle.desk_calls.proofs.responding.response.Tie as tie
 
-bad-time-requires : tie.Need-bad-time-requires
-bad-time-requires c κs = search needs
-
-refuse-requires : tie.Need-refuse-requires
-refuse-requires c κs = search needs
+-- What the delivery refuses by is what the call's own rows give.
+told : (s : State) (r : Response) (g : Delivered) → g ≡ responseOf (s .desk) (s .profiles) r → g .refusal ≡ firstOf (managerRows s (Respond r))
+unfolding managerRows responseRefusal
+told s r g f = ap (λ (x : Delivered). x .refusal) f ∙ response-refusal (s .desk) (s .profiles) r
 
 returns : tie.Need-returns
 returns c =
-    let g = c .before in
-    let a = g .before .before .args in
-    response-all (a .state) (a .time) (a .response) (c .refuse .ensures ∙ response-late (a .state) (a .time) (a .response) (sym (g .before .bad-time .ensures) ∙ g .if1 .taken))
-
-response-requires : tie.Need-response-requires
-response-requires c κs = search needs
-
-refuse-requires-2 : tie.Need-refuse-requires-2
-refuse-requires-2 c κs = search needs
-
-returns-2 : tie.Need-returns-2
-returns-2 c =
     let k = c .before in
     let w = k .before .before in
-    let g = w .before .before .before in
-    let a = g .before .before .args in
-    response-all (a .state) (a .time) (a .response) (c .refuse2 .ensures ∙ response-refused (a .state) (a .time) (a .response) (sym (g .before .bad-time .ensures) ∙ g .if1 .left) (w .response .result) (w .response .ensures) (k .if2 .taken))
+    let a = w .before .before .before .args in
+    own-refused (a .state) (a .time) (Respond (a .response)) (w .response .result .refusal) (told (a .state) (a .response) (w .response .result) (w .response .ensures)) (k .if1 .taken) (c .refuse .ensures)
 
-tick-requires : tie.Need-tick-requires
-tick-requires c κs = search needs
-
-crowded-requires : tie.Need-crowded-requires
-crowded-requires c κs = search needs
-
-refuse-requires-3 : tie.Need-refuse-requires-3
-refuse-requires-3 c κs = search needs
+returns-2 : tie.Need-returns-2
+unfolding managerBy
+returns-2 c =
+    let g = c .before in
+    let x = g .before in
+    let k = x .before .before .before .before .before in
+    let w = k .before .before in
+    let a = w .before .before .before .args in
+    own-settled (a .state) (a .time) (Respond (a .response)) (w .response .result .refusal) (told (a .state) (a .response) (w .response .result) (w .response .ensures)) (k .if1 .left)
+    (sent-refused (a .state) (a .time) (managerBy (a .state) (Respond (a .response))) (x .send .result) (rw (← (w .response .ensures)) (x .send .ensures)) (g .if2 .taken) (c .refuse2 .ensures))
 
 returns-3 : tie.Need-returns-3
+unfolding managerBy
 returns-3 c =
-    let l = c .before in
-    let m = l .before .before in
-    let k = m .before .before .before .before in
+    let g = c .before .before .before .before .before .before .before .before in
+    let x = g .before in
+    let k = x .before .before .before .before .before in
     let w = k .before .before in
-    let g = w .before .before .before in
-    let a = g .before .before .args in
-    response-all (a .state) (a .time) (a .response) (c .refuse3 .ensures ∙ response-crowded (a .state) (a .time) (a .response) (sym (g .before .bad-time .ensures) ∙ g .if1 .left) (w .response .result) (w .response .ensures) (k .if2 .left) (m .tick .result) (m .tick .ensures) (sym (l .before .crowded .ensures) ∙ l .if3 .taken))
-
-delivering-requires : tie.Need-delivering-requires
-delivering-requires c κs = search needs
-
-told-requires : tie.Need-told-requires
-told-requires c κs = search needs
-
-returns-4 : tie.Need-returns-4
-returns-4 c =
-    let d = c .before in
-    let l = d .before .before .before .before .before in
-    let m = l .before .before in
-    let k = m .before .before .before .before in
-    let w = k .before .before in
-    let g = w .before .before .before in
-    let a = g .before .before .args in
-    response-all (a .state) (a .time) (a .response) (response-done (a .state) (a .time) (a .response) (sym (g .before .bad-time .ensures) ∙ g .if1 .left) (w .response .result) (w .response .ensures) (k .if2 .left) (m .tick .result) (m .tick .ensures) (sym (l .before .crowded .ensures) ∙ l .if3 .left) (c .told .result) (c .told .ensures) (d .delivering .result) (d .delivering .ensures))
+    let a = w .before .before .before .args in
+    own-settled (a .state) (a .time) (Respond (a .response)) (w .response .result .refusal) (told (a .state) (a .response) (w .response .result) (w .response .ensures)) (k .if1 .left)
+    (sent-done (a .state) (a .time) (managerBy (a .state) (Respond (a .response))) (x .send .result) (rw (← (w .response .ensures)) (x .send .ensures)) (g .if2 .left)
+    (rw (c .accept .ensures, c .before .delivering .ensures, w .response .ensures)))
 
 pub response-spec : {M : Type 1} → statement M
-response-spec =
-    tie.close
-    (tie.spec
-    bad-time-requires
-    refuse-requires
-    returns
-    response-requires
-    refuse-requires-2
-    returns-2
-    tick-requires
-    crowded-requires
-    refuse-requires-3
-    returns-3
-    delivering-requires
-    told-requires
-    returns-4)
+response-spec = tie.close (tie.spec (λ c κs. search needs) (λ c κs. search needs) returns (λ c κs. search needs) (λ c κs. search needs) returns-2 (λ c κs. search needs) (λ c κs. search needs) returns-3)
