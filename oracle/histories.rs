@@ -10,6 +10,7 @@ use std::io::Write;
 const LAST_TIME: u64 = 16_777_215_999;
 const CONTROL_PLACES: usize = 1024;
 const LONGEST_WAIT: u64 = 60_000;
+const LONGEST_REPLY: u64 = 64;
 
 // ---- The box
 
@@ -384,7 +385,9 @@ impl Generator<'_> {
         if let Some(reply) = known.filter(|_| self.chance.one_in(3)) {
             return reply;
         }
-        let lines = self.lines(&format!("41{pid:02X}"));
+        // The Rust reads on behind the data length (document 02, A1): the first line has no surplus bytes.
+        let first = MODE01_PID_DATA_LENGTHS[usize::from(pid)].map_or(LONGEST_REPLY, |data| u64::from(data) + 2);
+        let lines = self.lines(&format!("41{pid:02X}"), first);
         let reply = match lines {
             None => format!(" {pid:02X}"),
             Some(lines) => format!(" {pid:02X}:{lines}"),
@@ -393,21 +396,23 @@ impl Generator<'_> {
         reply
     }
 
-    /// None for no lines, else up to 8 of them with up to 64 bytes, the first often a proper one.
-    fn lines(&mut self, proper: &str) -> Option<String> {
+    /// None for no lines, else up to 8 of them with up to 64 bytes, the first of at most `first` and often a proper one.
+    fn lines(&mut self, proper: &str, first: u64) -> Option<String> {
         let c = &mut self.chance;
         let count = c.pick(&[0, 1, 1, 1, 1, 2, 3, 8]);
-        let mut left = 64;
+        let mut left = LONGEST_REPLY;
         let mut lines = Vec::new();
         for n in 0..count {
             let mut line = String::new();
+            let mut room = if n == 0 { first } else { left };
             if n == 0 && !c.one_in(4) {
                 line += proper;
                 left -= 2;
+                room -= 2;
             }
             let longest = c.pick(&[1, 3, 5, 7, 65]);
-            let length = c.below(longest).min(left);
-            let length = if c.one_in(20) { left } else { length };
+            let length = c.below(longest).min(room);
+            let length = if c.one_in(20) { room } else { length };
             line += &c.hex(length);
             left -= length;
             lines.push(line);
@@ -433,7 +438,7 @@ impl Generator<'_> {
         if self.chance.one_in(3) {
             return "-".into();
         }
-        let lines = self.lines(&format!("41{:02X}", 0x20 * n));
+        let lines = self.lines(&format!("41{:02X}", 0x20 * n), LONGEST_REPLY);
         lines.map_or(".".into(), |lines| format!(":{lines}"))
     }
 

@@ -5,8 +5,8 @@ No answer here is the program's own. They come from three places:
 - oracle/examples: worked out by hand from document 01, and given by the Rust too;
 - oracle/sample: the Rust's answers to generated histories (`oracle/compare --sample 41 900 oracle/sample/calls.txt
   oracle/sample/answers.txt` wrote them);
-- the cases below, worked out by hand: what the Rust has no answer for (refusals, lines that don't follow
-  history-format.md), the answer of each line behind its arrow.
+- the cases below, worked out by hand: what the Rust has no answer for (refusals, filler bytes behind a value, lines that
+  don't follow history-format.md), the answer of each line behind its arrow.
 Run it at the repository's top."""
 import pathlib
 
@@ -77,7 +77,7 @@ response 1 0C:{'41' * 33},{'41' * 32} → refused 3
 response 1 0B 0C:{',' * 8} → refused 3
 show → show 0 0 - 0 - - - -
 response 1 0C:{','.join(['410C0102'] * 8)} → ok 0C=258
-response 1 0D:{'41' * 64} 0E → ok 0D=1094795585 0E=0
+response 1 0D:{'41' * 64} 0E → ok 0D=65 0E=0
 connect 1 1 * 0 - - - - - - - :{'41' * 65} → refused 3
 connect 1 1 * 0 :{',' * 8} - - - - - - - → refused 3
 begin 1 → ok
@@ -169,6 +169,106 @@ connect 2009 0 → failed
 reconnect 2009 → yes
 reconnect 3008 → no
 reconnect 3009 → yes
+"""
+
+# Document 02, A1. J1979's data lengths: 0D has one byte, 0C two, 24 four, 64 five, 66 none. No PID has three, or more
+# than five: crates/marked_rows computes those.
+VALUES = f"""
+start 0 {DEFAULTS} → started
+# no line, and lines of no byte, one and two: nothing behind the two bytes that are skipped
+response 1 0C 0D 24 64 66 → ok 0C=0 0D=0 24=0 64=0 66=0
+response 1 0C: 0D: 24: 64: 66: → ok 0C=0 0D=0 24=0 64=0 66=0
+response 1 0C:41 0D:41 24:41 64:41 66:41 → ok 0C=0 0D=0 24=0 64=0 66=0
+response 1 0C:410C 0D:410D 24:4124 64:4164 66:4166 → ok 0C=0 0D=0 24=0 64=0 66=0
+show → show 1 0 - 0 - - - 0
+# one byte behind them, then two, to seven: the length is passed by 0D at two, 0C at three, 24 at five, 64 at six
+response 2 0C:410C01 0D:410D01 24:412401 64:416401 66:416601 → ok 0C=1 0D=1 24=1 64=1 66=1
+show → show 2 0 - 0 - - - 0
+response 2 0C:410C0102 0D:410D0102 24:41240102 64:41640102 66:41660102 → ok 0C=258 0D=1 24=258 64=258 66=258
+show → show 2 0 - 0 - - - 64
+response 2 0C:410C010203 0D:410D010203 24:4124010203 64:4164010203 66:4166010203 → ok 0C=258 0D=1 24=66051 64=66051 66=66051
+response 2 0C:410C01020304 0D:410D01020304 24:412401020304 → ok 0C=258 0D=1 24=16909060
+response 2 64:416401020304 66:416601020304 → ok 64=16909060 66=16909060
+response 2 0D:410D0102030405 24:41240102030405 64:41640102030405 66:41660102030405 → ok 0D=1 24=16909060 64=16909060 66=16909060
+response 2 24:4124010203040506 64:4164010203040506 66:4166010203040506 → ok 24=16909060 64=16909060 66=16909060
+response 2 64:416401020304050607 → ok 64=16909060
+show → show 2 0 - 0 - - - 64
+# document 02's row: 41 0C 01 02 03 04 05 is 258, revs 64
+response 3 0C:410C1AF8 → ok 0C=6904
+show → show 3 0 - 0 - - - 1726
+response 3 0C:410C0102030405 → ok 0C=258
+show → show 3 0 - 0 - - - 64
+# the most that each holds, the line filled up to 64 bytes
+response 4 0C:410C{'FF' * 62} → ok 0C=65535
+response 4 0D:410D{'FF' * 62} → ok 0D=255
+response 4 24:4124{'FF' * 62} → ok 24=4294967295
+response 4 64:4164{'FF' * 62} → ok 64=4294967295
+response 4 66:4166{'FF' * 62} → ok 66=4294967295
+show → show 4 0 - 0 - - - 16383
+# the first line alone, also where it is short and the next is not
+response 5 0C:410C07,410C1AF8 0D:410D,410D7F 24:412401,412401020304 → ok 0C=7 0D=0 24=1
+response 5 0C:,410C1AF8 → ok 0C=0
+# the ends of the table and its gaps: 00, 80, A0 and C0 have four bytes, 63 and 65 two; 7F, 81, E0 and FF none
+response 6 00:41000102030405 63:4163010203 64:41640102030405 65:4165010203 66:416601020304 7F:417F01020304 → ok 00=16909060 63=258 64=16909060 65=258 66=16909060 7F=16909060
+response 6 80:41800102030405 81:418101020304 A0:41A00102030405 C0:41C00102030405 E0:41E001020304 FF:41FF01020304 → ok 80=16909060 81=16909060 A0=16909060 C0=16909060 E0=16909060 FF=16909060
+# data of zeros before the filler bytes
+response 6 0C:410C0000FFFF 0D:410D00FF → ok 0C=0 0D=0
+show → show 6 0 - 0 - - - 0
+# what the two skipped bytes are does not matter: the length goes by the PID that the reply was brought for
+response 6 0C:000D010203 0D:000C010203 → ok 0C=258 0D=1
+# neither does what a session says is known: no PID's length, then every one's; and a length unlearnt by a result
+connect 7 1 {'0' * 64} 0 {ABSENT} → connected
+response 7 0C:410C0102030405 0D:410D0102 66:41660102030405 → ok 0C=258 0D=1 66=16909060
+start 7 {DEFAULTS} 0,0C,0,-,1 → started
+connect 7 1 {'F' * 64} 0 {ABSENT} → connected
+response 7 0C:410C0102030405 0D:410D0102 66:41660102030405 → ok 0C=258 0D=1 66=16909060
+take 7 → set 0C 0
+begin 7 → ok
+next 7 → query 0C -
+result 7 0 0 1,0 → ok
+response 7 0C:410C0102030405 → ok 0C=258
+next 7 → end 1
+# thresholds, strictly below the value: the filler bytes of 0C and 0D would have passed them
+start 0 {DEFAULTS} 2,0C,0,257,1 2,0D,1,1,1 2,64,1,16909059,1 2,66,1,16909059,1 → started
+response 1 0C:410C0101FFFF 0D:410D01FF 64:416401020303FFFF 66:416601020303FF → ok 0C=257 0D=1 64=16909059 66=16909059
+response 2 0C:410C0102FFFF 0D:410D02FF 64:416401020304FFFF 66:416601020304FF → ok 0C=258! 0D=2! 64=16909060! 66=16909060!
+response 3 0C:410C0102FFFF 0D:410D02FF 64:416401020304FFFF 66:416601020304FF → ok 0C=258 0D=2 64=16909060 66=16909060
+# at the most that a length holds no value is above the threshold; nor is 0 above 0
+start 0 {DEFAULTS} 2,0C,0,65535,1 2,0D,1,255,1 2,05,1,0,1 → started
+response 1 05:410500FF 0C:410CFFFFFFFF 0D:410DFFFF → ok 05=0 0C=65535 0D=255
+response 2 05:410501 → ok 05=1!
+# the maintenance of the same call: the pin stays at the threshold, and goes above it
+start 0 {DEFAULTS} 2,05,1,100,1 → started
+response 2000 05:4105640000 → ok 05=100 report 0 0 0 00000000
+show → show 2000 0 - 0 - 05s+ 05s -
+start 0 {DEFAULTS} 2,05,1,100,1 → started
+response 2000 05:4105650000 → ok 05=101! report 0 0 0 00000000
+show → show 2000 0 - 0 - 05s 05s -
+# a Fast one: pinned it stays as it is; unpinned it is demoted, since nobody waited for it, and removed past 4,000
+start 0 {DEFAULTS} 2,0C,0,257,1 → started
+response 2000 0C:410C0101FFFF → ok 0C=257 report 0 0 0 00000000
+show → show 2000 0 - 0 - 0Cf+ 0Cf 64
+start 0 {DEFAULTS} 2,0C,0,257,1 → started
+response 2000 0C:410C0102FFFF → ok 0C=258! report 0 0 0 00000000
+show → show 2000 0 - 0 - 0Cs 0Cf,0Cs 64
+start 0 {DEFAULTS} 2,0C,0,257,1 → started
+response 4001 0C:410C0102FFFF → ok 0C=258! report 0 0 0 00000000
+show → show 4001 0 - 0 - - 0Cf,0Cx 64
+# what is stored and handed out keeps every byte
+start 0 {DEFAULTS} → started
+register 0 → client 1
+register 0 → client 2
+connect 10 1 * 0 {ABSENT} → connected
+ask 10 1 '010C 0 → waiting 0C
+response 11 0C:410C0102030405,410C → ok 0C=258
+collect 12 1 8 → refused 14
+collect 12 1 9 → reading 0C 7,2 410C0102030405410C 2
+ask 12 2 '010C 64 → reading 0C 7,2 410C0102030405410C
+# and equal values are two deliveries
+response 13 0C:410C0102FF → ok 0C=258
+response 14 0C:410C0102EE → ok 0C=258
+ask 14 1 '010C 64 → reading 0C 5 410C0102EE
+ask 14 1 '010C 64 → waiting 0C
 """
 
 # Lines that don't follow the page give `bad line`, and nothing changes.
@@ -298,7 +398,7 @@ def written(pairs):
 
 def main():
     top = pathlib.Path(__file__).resolve().parent.parent
-    pairs = written(cut(REFUSALS)) + written(at_the_limit()) + [(line.encode("latin-1"), b"bad line") for line in BAD]
+    pairs = written(cut(REFUSALS)) + written(cut(VALUES)) + written(at_the_limit()) + [(line.encode("latin-1"), b"bad line") for line in BAD]
     pairs += written([("show", "show 1 0 - 0 - - - -")]) + written(crowded())
     for example in sorted((top / "oracle/examples").glob("*.txt")):
         if not example.name.startswith("recorder"):

@@ -24,7 +24,7 @@ abbrev pub readOff : State → Reading
 readOff s = record { manager = s .manager; profiles = s .profiles; settings = s .settings }
 
 -- The profiles that a response leaves depend on the profiles and the response alone.
-turns-switched : (k i : ℕ) (r : Response) (a : Delivered) → turnsOf k i r a .profiles ≡ switched k i r (a .profiles)
+pub turns-switched : (k i : ℕ) (r : Response) (a : Delivered) → turnsOf k i r a .profiles ≡ switched k i r (a .profiles)
 unfolding turnsOf turnOf switched
 turns-switched zero i r a = refl
 turns-switched (suc k) i r a = turns-switched k (suc i) r (turnOf r i a)

@@ -1,4 +1,5 @@
 pub mod Both
+pub mod Bytes
 pub mod Choice
 pub mod Count
 pub mod Each

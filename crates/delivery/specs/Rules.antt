@@ -11,10 +11,11 @@ use Rattle.clients.specs.Rules.{markedOf}
 use Rattle.config.specs.declared.Profiles.{Profiles}
 use Rattle.desk.specs.declared.Desk.{Desk}
 use Rattle.desk.specs.declared.Revs.{Revs}
-use Rattle.reply.specs.Rules.{maxPids, noReply, withinOf, valueOf}
+use Rattle.reply.specs.Rules.{maxPids, noReply, withinOf}
 use Rattle.reply.specs.declared.Reply.{Reply}
 use Rattle.reply.specs.declared.Response.{Response}
 use Rattle.triggers.specs.Rules.{switchOf, noticeOf}
+use Rattle.value.specs.Rules.{valueOf}
 use Rattle.delivery.specs.declared.Answered.{Answered}
 
 -- The PID whose value is four times the revs.

@@ -113,7 +113,7 @@ fn turn(mut beside: Beside, response: Response, i: usize) -> Beside
 {
     let pid = response.pids[i];
     let brought = response.replies[i];
-    let value = reply::value(pid, brought);
+    let value = value::of_reply(pid, brought);
     let clients = beside.clients;
     let marked = clients::mark_all(clients, pid);
     beside.clients = marked;

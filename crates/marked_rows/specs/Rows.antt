@@ -1,9 +1,10 @@
--- DOCUMENT 01'S MARKED ROWS: one table of what the definitions give, and one theorem.
+-- DOCUMENT 01'S MARKED ROWS: one table of what the definitions give, and one theorem; the row of five bytes is document
+-- 02's, A1. Beside it the value by every kind of data length.
 use mathlib.Core.Bool.{true, false}
 use mathlib.Core.List.{List, [], _∷_, _++_}
 use mathlib.Core.Path.{_≡_, refl}
-use Prim.Native.Nat.{ℕ}
-use lib.ListN.{length, replicate}
+use Prim.Native.Nat.{ℕ, _+_, _-_}
+use lib.ListN.{length, replicate, take}
 use Rattle.base.specs.Choice.{pick}
 use Rattle.base.specs.Count.{moreOf}
 use Rattle.ascii.specs.Chars.{upper, hexValue, between}
@@ -13,14 +14,18 @@ use Rattle.command.specs.declared.Command.{Command}
 use Rattle.command.specs.declared.Command.the-variants as command
 use Rattle.config.specs.declared.PidPriority.the-variants.{Slow}
 use Rattle.delivery.specs.Rules.{revsAfter}
+use Rattle.pid.specs.Laws.{revs-length}
+use Rattle.pid.specs.declared.DataLength.{DataLength}
+use Rattle.pid.specs.declared.DataLength.the-variants as data-length
 use Rattle.pid_list.specs.Rules.{entries, sizeOf, place, wrap, swapOut, appendOf, fitOf, removeOf, setOf, nextOf}
 use Rattle.pid_list.specs.declared.PidList.{PidList}
 use Rattle.pid_table.specs.Entry.{isFast, promotesOf, consumedOf, pastOf, looseOf, idleOf, removedOf}
 use Rattle.pid_table.specs.declared.PidInfo.{PidInfo}
 use Rattle.pid_table.specs.declared.LastTime.the-variants.{Never, At}
 use Rattle.pid_table.specs.declared.WaitDuration.the-variants.{Miss}
-use Rattle.reply.specs.Rules.{valueOf, dataBytes, firstLine, firstLengthOf, lengthsOf, countedOf, foldOf}
+use Rattle.reply.specs.Rules.{firstLine, firstLengthOf, lengthsOf}
 use Rattle.reply.specs.declared.Reply.{Reply}
+use Rattle.value.specs.Rules.{widthOf, dataOf, foldOf, valueBy, valueOf}
 
 -- A command's class and number: 0 a range, 1 a PID, 2 `?`.
 abbrev numbersOf : Command → List ℕ
@@ -28,10 +33,11 @@ numbersOf (command.Range n) = 0 ∷ n ∷ []
 numbersOf (command.Pid p) = 1 ∷ p ∷ []
 numbersOf command.Unknown = 2 ∷ []
 
--- A reply of one line to PID 0Ch: its value, and the revs stored.
+-- A reply of one line.
 abbrev line : List ℕ → Reply
 line bytes = record { lines = 1; lengths = length bytes ∷ replicate 7 0; bytes = bytes }
 
+-- As one to PID 0Ch: its value, and the revs stored.
 abbrev valueRow : List ℕ → List ℕ
 valueRow bytes = valueOf 12 (line bytes) ∷ revsAfter 12 (valueOf 12 (line bytes)) (record { known = false; value = 0 }) .value ∷ []
 
@@ -80,7 +86,7 @@ pub rows : results
     ∷ (1 ∷ 12 ∷ [])
     ∷ (2 ∷ [])
     ∷ (6904 ∷ 1726 ∷ [])
-    ∷ (16909060 ∷ 4227265 ∷ [])
+    ∷ (258 ∷ 64 ∷ [])
     ∷ (1 ∷ [])
     ∷ (0 ∷ [])
     ∷ (0 ∷ [])
@@ -89,5 +95,37 @@ pub rows : results
     ∷ (6 ∷ 5 ∷ 4 ∷ 5 ∷ [])
     ∷ (0x01 ∷ 0x00 ∷ 0x00 ∷ 0x00 ∷ 0x01 ∷ 0x02 ∷ 0x00 ∷ 0x41 ∷ 0x0c ∷ [])
     ∷ []
-unfolding commandOf stripped sameText rangeTexts indexOf pidOf upper hexValue between recordBytes le revsAfter entries sizeOf place wrap swapOut appendOf fitOf removeOf setOf nextOf isFast promotesOf consumedOf moreOf pastOf looseOf idleOf removedOf valueOf dataBytes firstLine firstLengthOf lengthsOf countedOf foldOf
-rows = refl
+unfolding commandOf stripped sameText rangeTexts indexOf pidOf upper hexValue between recordBytes le revsAfter entries sizeOf place wrap swapOut appendOf fitOf removeOf setOf nextOf isFast promotesOf consumedOf moreOf pastOf looseOf idleOf removedOf valueOf valueBy widthOf dataOf firstLine firstLengthOf lengthsOf foldOf
+rows = rw revs-length
+
+-- A1: a line with n bytes behind mode and PID. A row is the values with n - 1, n and n + 1 of them: fewer than the data length, as
+-- many, and more; where there is none, about the four that are then read.
+abbrev bringing : ℕ → Reply
+bringing n = line (take (2 + n) (0x41 ∷ 0x64 ∷ 1 ∷ 2 ∷ 3 ∷ 4 ∷ 5 ∷ 6 ∷ 7 ∷ []))
+
+abbrev lengthRow : DataLength → ℕ → List ℕ
+lengthRow l n = valueBy l (bringing (n - 1)) ∷ valueBy l (bringing n) ∷ valueBy l (bringing (n + 1)) ∷ []
+
+-- No PID has a length of 3, or of more than 5, so only these rows show them.
+abbrev pub byLength : List (List ℕ)
+byLength =
+    lengthRow (data-length.Known 1) 1
+    ∷ lengthRow (data-length.Known 2) 2
+    ∷ lengthRow (data-length.Known 3) 3
+    ∷ lengthRow (data-length.Known 4) 4
+    ∷ lengthRow (data-length.Known 5) 5
+    ∷ lengthRow (data-length.Known 6) 6
+    ∷ lengthRow data-length.Unknown 4
+    ∷ []
+
+pub lengths : byLength
+    ≡ (0 ∷ 1 ∷ 1 ∷ [])
+    ∷ (1 ∷ 258 ∷ 258 ∷ [])
+    ∷ (258 ∷ 66051 ∷ 66051 ∷ [])
+    ∷ (66051 ∷ 16909060 ∷ 16909060 ∷ [])
+    ∷ (16909060 ∷ 16909060 ∷ 16909060 ∷ [])
+    ∷ (16909060 ∷ 16909060 ∷ 16909060 ∷ [])
+    ∷ (66051 ∷ 16909060 ∷ 16909060 ∷ [])
+    ∷ []
+unfolding valueBy widthOf dataOf firstLine firstLengthOf lengthsOf foldOf
+lengths = refl

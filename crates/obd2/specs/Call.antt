@@ -4,11 +4,13 @@ use mathlib.Core.List.{List, [], _∷_}
 use mathlib.Core.Path.{_≡_}
 use Prim.Native.Nat.{ℕ, _<_}
 use lib.ListN.{length, getD}
+use Rattle.base.specs.Bytes.{Bytes}
 use Rattle.config.specs.declared.Profiles.{Profiles}
 use Rattle.config.specs.declared.Settings.{Settings}
 use Rattle.link.specs.declared.Session.{Session}
 use Rattle.pid_table.specs.declared.WaitDuration.{WaitDuration}
 use Rattle.rounds.specs.declared.Outcome.{Outcome}
+use Rattle.reply.specs.Rules.{noReply}
 use Rattle.reply.specs.declared.Response.{Response}
 
 -- "The manager's calls are the four events below, response, register, leave and tick"; c is a client's number, p a PID.
@@ -103,15 +105,13 @@ next t = round t Next
 abbrev pub result : ℕ → Outcome → Call
 result t o = round t (Result o)
 
--- What a caller can hand in: PIDs are bytes and arrays have their lengths, since antt's numbers and lists have no
--- bounds of their own. Times, client numbers, commands, areas and settings may be any.
-pub record Bytes (xs : List ℕ) : Type 0 where
-  pub each : (i : ℕ) → i < length xs → getD xs i 0 < 256
-
+-- What a caller can hand in: PIDs and a reply's bytes are bytes and arrays have their lengths, since antt's numbers and lists
+-- have no bounds of their own. Times, client numbers, commands, areas and settings may be any.
 pub record FitResponse (r : Response) : Type 0 where
   pub six : length (r .pids) ≡ 6
   pub small : Bytes (r .pids)
   pub replies : length (r .replies) ≡ 6
+  pub bytes : (i : ℕ) → Bytes (getD (r .replies) i noReply .bytes)
 
 abbrev pub FitManager : ManagerCall → Type 0
 FitManager Register = Unit {0}

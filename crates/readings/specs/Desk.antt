@@ -2,11 +2,10 @@
 use mathlib.Core.Bool.{Bool, true, false, _&&_, _||_, not, and-true, and-comm, or-comm}
 use mathlib.Core.List.{List}
 use mathlib.Core.Path.{_≡_, refl, sym, _∙_}
-use Prim.Native.Nat.{ℕ, zero, suc, _+_, _<_, _≤_}
+use Prim.Native.Nat.{ℕ, zero, suc, _+_, _≤_}
 use native.Mathlib.Omega.{arith}
-use lib.Dec.{eqb, ltb}
-use lib.ListN.{List·getD-eq-default}
-use borrow.Author.Tests.{eqb-true, ltb-true, ltb-false}
+use lib.Dec.{eqb}
+use borrow.Author.Tests.{eqb-true}
 use Rattle.base.specs.Both.{both-left, both-right}
 use Rattle.base.specs.Choice.{pick, cases, false-true}
 use Rattle.cache.specs.Laws.{ask-law, ask-hands}
@@ -20,7 +19,7 @@ use Rattle.clients.specs.declared.Client.{Client}
 use Rattle.clients.specs.declared.Wait.{Wait}
 use Rattle.config.specs.declared.Profiles.{Profiles}
 use Rattle.delivery.specs.Laws.{arrives, newestOf, newest-any, newest-missing, response-law}
-use Rattle.delivery.specs.Rules.{deliverOf, turnOf, turnsOf, unanswered, responseOf, responseRefusal, pidAt}
+use Rattle.delivery.specs.Rules.{deliverOf, turnOf, turnsOf, unanswered, responseOf, responseRefusal}
 use Rattle.delivery.specs.declared.Answered.{Answered}
 use Rattle.desk.specs.Laws.{Sound, After, leave-law, register-law}
 use Rattle.desk.specs.Rules.{registered, clientOf, fresh, waitOf, stored, putClient, entered, leaveOf, registerRefusal, registerOf}
@@ -85,12 +84,6 @@ newest-brought : (r : Response) (p : ℕ) (old : Reply) → newestOf r p old ≡
 newest-brought r p old = cases _ (arrives r p)
     (λ e. rw e (newest-any r p (r .count) 0 old noReply e))
     (λ e. rw e (newest-missing r p (r .count) 0 old e))
-
--- A place of a response past its end has 0.
-fit-bytes : (r : Response) → FitResponse r → (j : ℕ) → pidAt r j < 256
-fit-bytes r f j = cases _ (ltb j 6)
-    (λ e. f .small .each j (rw (f .six) (ltb-true j 6 e)))
-    (λ e. rw (List·getD-eq-default (r .pids) 0 {n = j} (rw (f .six) (ltb-false j 6 e))) (omega arith))
 
 module _ {d : Desk} {on : Bool} (k : Sound d) (t : ℕ) where
   -- The desk is left alone.
@@ -170,7 +163,7 @@ module _ {d : Desk} {on : Bool} (k : Sound d) (t : ℕ) where
 
   pub brings : (ps : Profiles) (r : Response) → FitResponse r → responseRefusal r ≡ 0 → Makes d on (bringing r) t (responseOf d ps r .desk) on
   brings ps r f e =
-      let a = response-law d ps r (fit-bytes r f) k e in
+      let a = response-law d ps r (f .small .each) k e in
       record {
         new = λ c p. fresh d c p || (registered d c && arrives r p);
         desk = record {

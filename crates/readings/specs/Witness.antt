@@ -3,14 +3,12 @@
 use mathlib.Core.Bool.{true}
 use mathlib.Core.List.{List, [], _∷_, _++_, map}
 use mathlib.Core.Path.{_≡_, refl, ap, _∙_}
-use Prim.Native.Nat.{ℕ, _<_}
-use lib.Dec.{ltb}
-use lib.ListN.{getD}
-use borrow.Author.Tests.{ltb-true}
+use Prim.Native.Nat.{ℕ, zero, suc}
+use lib.ListN.{getD, replicate}
 use Rattle.ascii.specs.Chars.{between, upper, hexValue}
+use Rattle.base.specs.Bytes.{Bytes, no-bytes, bytes-tested}
 use Rattle.base.specs.Each.{someOf}
 use Rattle.base.specs.Refusal.{firstOf}
-use Rattle.base.specs.Table.{at}
 use Rattle.cache.specs.declared.Answer.the-variants.{Reading, Waiting}
 use Rattle.cache.specs.Rules.{commandStep, stepOf, answerOf, handedOf, filledBy, afterAsk, busy}
 use Rattle.clients.specs.Rules.{newcomer, placeOf, markedOf, takenOf, waitingOf, idledOf, findOf, registeredOf, freshIn}
@@ -129,11 +127,17 @@ computed =
       hands = refl;
     }
 
-revs-bytes : (i : ℕ) → i < 6 → getD (revs .pids) i 0 < 256
-revs-bytes i h = ltb-true (getD (revs .pids) i 0) 256 (at (λ j x. ltb x 256) (revs .pids) refl i h)
+silent : (n i : ℕ) → Bytes (getD (replicate n noReply) i noReply .bytes)
+silent zero i = no-bytes
+silent (suc n) zero = no-bytes
+silent (suc n) (suc i) = silent n i
+
+revs-bytes : (i : ℕ) → Bytes (getD (revs .replies) i noReply .bytes)
+revs-bytes zero = bytes-tested (reading .bytes) refl
+revs-bytes (suc i) = silent 5 i
 
 revs-fit : FitResponse revs
-revs-fit = record { six = refl; small = record { each = revs-bytes }; replies = refl }
+revs-fit = record { six = refl; small = bytes-tested (revs .pids) refl; replies = refl; bytes = revs-bytes }
 
 pub calls-fit : Calls calls
 calls-fit = more tt (more tt (more tt (more revs-fit (more tt (more revs-fit (more tt none))))))

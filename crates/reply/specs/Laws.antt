@@ -2,16 +2,15 @@
 use mathlib.Core.Bool.{true}
 use mathlib.Core.List.{List, _++_, append-assoc}
 use mathlib.Core.Path.{_≡_, refl}
-use Prim.Native.Nat.{ℕ, suc, _+_, _*_, _^_, _<_, _≤_}
+use Prim.Native.Nat.{ℕ, suc, _+_, _<_, _≤_}
 use native.Mathlib.Omega.{arith}
 use native.Mathlib.Numerals.{add-one}
-use native.Mathlib.Nat.{pow-suc, pow-le-pow-right, zero-lt-suc}
 use lib.Dec.{leb}
 use lib.ListN.{length, getD, set, take, drop, length-append, length-take, length-drop, drop-of-length-le}
-use lib.Seq.{drop-cons, getD-take, getD-drop, take-suc, set-at, take-at, drop-at, length-take-le}
+use lib.Seq.{drop-cons, getD-take, take-suc, set-at, take-at, drop-at, length-take-le}
 use borrow.Author.Tests.{leb-true, le-ltb, lt-ltb}
 use Rattle.base.specs.Both.{both-right}
-use Rattle.reply.specs.Rules.{maxLines, maxBytes, emptyReply, sumOf, countedOf, lengthsOf, totalOf, withinOf, sizeOf, joinedOf, filledOf, firstLengthOf, firstLine, foldOf, payloadOf, dataBytes}
+use Rattle.reply.specs.Rules.{maxLines, maxBytes, emptyReply, sumOf, countedOf, lengthsOf, totalOf, withinOf, sizeOf, joinedOf, filledOf}
 use Rattle.reply.specs.declared.Reply.{Reply}
 
 pub sum-step : (xs : List ℕ) (i : ℕ) → i < length xs → sumOf (drop i xs) ≡ getD xs i 0 + sumOf (drop (i + 1) xs)
@@ -22,14 +21,6 @@ pub sum-end : (xs : List ℕ) (i : ℕ) → length xs ≤ i → sumOf (drop i xs
 unfolding sumOf
 sum-end xs i h = rw (drop-of-length-le xs h)
 
-pub fold-step : (xs : List ℕ) (acc i : ℕ) → i < length xs → foldOf acc (drop i xs) ≡ foldOf (acc * 256 + getD xs i 0) (drop (i + 1) xs)
-unfolding foldOf
-fold-step xs acc i h = rw (add-one i, drop-cons xs i 0 h)
-
-pub fold-end : (xs : List ℕ) (acc i : ℕ) → length xs ≤ i → foldOf acc (drop i xs) ≡ acc
-unfolding foldOf
-fold-end xs acc i h = rw (drop-of-length-le xs h)
-
 pub counted-le : (n : ℕ) → countedOf n ≤ maxLines
 unfolding countedOf
 counted-le n = omega arith
@@ -37,17 +28,6 @@ counted-le n = omega arith
 pub size-le : (r : Reply) → sizeOf r ≤ maxBytes
 unfolding sizeOf
 size-le r = omega arith
-
-pub payload-le : (n : ℕ) → payloadOf n ≤ 4
-unfolding payloadOf
-payload-le n = omega arith
-
--- Four bytes make a number of 32 bits.
-pub folds : (acc b i : ℕ) → acc < 256 ^ i → b < 256 → acc * 256 + b < 256 ^ (i + 1)
-folds acc b i h k = rw (add-one i, pow-suc) (omega arith)
-
-pub folds-fit : (i : ℕ) → i ≤ 4 → 256 ^ i ≤ 4294967296
-folds-fit i h = pow-le-pow-right (zero-lt-suc 255) h
 
 -- A list whose first i are another list's, and one more of them.
 pub fill-step : (d s : List ℕ) (i : ℕ) → i < length d → i < length s → set (take i s ++ drop i d) i (getD s i 0) ≡ take (i + 1) s ++ drop (i + 1) d
@@ -63,16 +43,6 @@ module _ (r : Reply) where
   pub lengths-at : (i : ℕ) → i < countedOf (r .lines) → getD (lengthsOf r) i 0 ≡ getD (r .lengths) i 0
   unfolding lengthsOf countedOf
   lengths-at i h = getD-take (r .lines) (r .lengths) i 0 (omega arith)
-
-  pub data-length : length (r .bytes) ≡ maxBytes → length (dataBytes r) ≡ payloadOf (firstLengthOf r)
-  unfolding dataBytes payloadOf firstLine
-  data-length h = rw (length-take, length-drop, length-take, h) (omega arith)
-
-  pub data-at : (i : ℕ) → i < payloadOf (firstLengthOf r) → getD (dataBytes r) i 0 ≡ getD (r .bytes) (i + 2) 0
-  unfolding dataBytes payloadOf firstLine
-  data-at i h =
-      let e : 2 + i ≡ i + 2 = omega arith in
-      rw (getD-take 4 (drop 2 (take (firstLengthOf r) (r .bytes))) i 0 (omega arith), getD-drop, e, getD-take (firstLengthOf r) (r .bytes) (i + 2) 0 (omega arith))
 
   -- Within the limits nothing is cut off.
   pub within-size : withinOf r ≡ true → sizeOf r ≡ totalOf r

@@ -1,7 +1,7 @@
--- What a reply is worth: its lines, its bytes, and the number that it stands for (document 01, "Client cache").
+-- A reply's lines and bytes, and its limits (document 01, "Client cache", and refusal 3).
 use mathlib.Core.Bool.{Bool, false, _&&_}
 use mathlib.Core.List.{List, [], _∷_, _++_}
-use Prim.Native.Nat.{ℕ, _+_, _-_, _*_, min}
+use Prim.Native.Nat.{ℕ, _+_, min}
 use lib.Dec.{ltb, leb}
 use lib.ListN.{length, getD, take, drop, replicate}
 use Rattle.base.specs.Choice.{pick}
@@ -66,18 +66,3 @@ firstLengthOf r = getD (lengthsOf r) 0 0
 
 unfoldable pub firstLine : Reply → List ℕ
 firstLine r = take (firstLengthOf r) (r .bytes)
-
--- The high byte first.
-unfoldable pub foldOf : ℕ → List ℕ → ℕ
-foldOf acc [] = acc
-foldOf acc (b ∷ bs) = foldOf (acc * 256 + b) bs
-
--- Two bytes are skipped, the mode and the PID, and at most four are folded.
-unfoldable pub payloadOf : ℕ → ℕ
-payloadOf n = min (n - 2) 4
-
-unfoldable pub dataBytes : Reply → List ℕ
-dataBytes r = take 4 (drop 2 (firstLine r))
-
-unfoldable pub valueOf : ℕ → Reply → ℕ
-valueOf pid r = foldOf 0 (dataBytes r)

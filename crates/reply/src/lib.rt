@@ -1,6 +1,6 @@
 // A reply of the dongle: one line for each control unit that answered, as the Rust's Lines.
 ghost use mathlib.Core.Path.{_≡_};
-ghost use Rattle.reply.specs.Rules.{emptyReply, countedOf, totalOf, withinOf, sizeOf, filledOf, firstLengthOf, payloadOf, valueOf};
+ghost use Rattle.reply.specs.Rules.{emptyReply, countedOf, totalOf, withinOf, sizeOf, filledOf, firstLengthOf};
 
 // The most lines of a reply, and the most bytes of all its lines.
 pub const MAX_LINES: usize = 8;
@@ -100,35 +100,8 @@ pub fn copy(r: Reply, area: &mut [u8])
 }
 
 // The length of the first line, 0 where there is none.
-fn first(r: Reply) -> u8
+pub fn first_length(r: Reply) -> u8
     ensures { λ n. ⌜ n ≡ firstLengthOf r ⌝ }
 {
     if r.lines == 0 { 0 } else { r.lengths[0] }
-}
-
-// How many bytes of a line make its value: at most four, behind the mode and the PID.
-fn payload(length: u8) -> usize
-    ensures { λ n. ⌜ n ≡ payloadOf length ⌝ }
-{
-    if length < 2 {
-        0
-    } else if length < 6 {
-        length as usize - 2
-    } else {
-        4
-    }
-}
-
-// The value of a reply: the first line's data, the high byte first.
-pub fn value(pid: u8, r: Reply) -> u32
-    ensures { λ v. ⌜ v ≡ valueOf pid r ⌝ }
-{
-    let n = payload(first(r));
-    let mut acc: u32 = 0;
-    let mut i: usize = 0;
-    while i < n {
-        acc = acc * 256 + r.bytes[i + 2] as u32;
-        i += 1;
-    }
-    acc
 }

@@ -12,8 +12,8 @@ mul-brought c = search needs
 element-copy-out-brought : tie.Need-element-copy-out-brought
 element-copy-out-brought c = search needs
 
-value-requires : tie.Need-value-requires
-value-requires c κs = search needs
+of-reply-requires : tie.Need-of-reply-requires
+of-reply-requires c κs = search needs
 
 mark-all-requires : tie.Need-mark-all-requires
 mark-all-requires c κs = search needs
@@ -43,8 +43,8 @@ returns c =
     let m = r .before .before in
     let v = m .before .before in
     let s = v .before .before .before .args in
-    turned (s .t2) (s .i) (s .t1) (v .value .result) (m .mark-all .result) (r .revs-after .result) (c .switch .result) (n .notice .result)
-    (v .value .ensures) (m .mark-all .ensures) (r .revs-after .ensures) (c .switch .ensures) (n .notice .ensures)
+    turned (s .t2) (s .i) (s .t1) (v .of-reply .result) (m .mark-all .result) (r .revs-after .result) (c .switch .result) (n .notice .result)
+    (v .of-reply .ensures) (m .mark-all .ensures) (r .revs-after .ensures) (c .switch .ensures) (n .notice .ensures)
 
 pub turn-spec : {M : Type 1} → statement M
 turn-spec =
@@ -53,7 +53,7 @@ turn-spec =
     element-copy-out-pid
     mul-brought
     element-copy-out-brought
-    value-requires
+    of-reply-requires
     mark-all-requires
     revs-after-requires
     notice-requires

@@ -1,11 +1,18 @@
+use base.Fml.{Fml}
+use denote.Array.{each}
 use denote.Enum.Declared.{variants}
 use denote.Enum.Laws.{owed, Fields, spellss}
 use denote.Ref.{now}
-use lib.ListN.{length, length-map}
-use mathlib.Core.List.{List}
+use denote.Shadow.{shadow}
+use denote.Struct.Declared.{shape}
+use denote.Struct.Struct.{Struct}
+use lib.ListN.{length, getD, length-map}
+use mathlib.Core.List.{List, [], _∷_, map}
 use mathlib.Core.Path.{_≡_, refl, sym, subst, _∙_}
 use mir.Syntax.{w8}
-use Prim.Native.Nat.{ℕ}
+use mir.Val.{Val, Fits}
+use Prim.Native.Nat.{ℕ, zero, suc}
+use Rattle.base.specs.Bytes.{Bytes, no-bytes}
 use Rattle.base.specs.Refusal.{first-none}
 use Rattle.dispatch.specs.Dispatch.{callOf, areaBy, fills}
 use Rattle.dispatch.specs.Laws.{filled, found, refused-late, done-timely}
@@ -20,6 +27,9 @@ use Rattle.obd2.specs.Refusals.{managerRows}
 use Rattle.obd2.specs.declared.call.Brought.{Brought}
 use Rattle.obd2.specs.declared.call.Call.{Call}
 use Rattle.obd2.specs.declared.call.Call.the-variants.{Register, Leave, Ask, Collect, GiveUp, Response, ProfilePidsChanged, Waiting, Consumed, Tick, SetSettings, TakeControl, Connect, ConnectFailed, ReconnectCheck, Begin, Next, Result}
+use Rattle.reply.proofs.Reply.{the-type as reply-type}
+use Rattle.reply.specs.Rules.{noReply}
+use Rattle.reply.specs.declared.Reply.{Reply}
 use borrow.Author.Needs.{needs, elem-fits-field}
 use Rattle.dispatch.proofs.call.Statement.{statement}
 use Rattle.dispatch.proofs.call.Tie as tie
@@ -51,20 +61,38 @@ fits t b cmd area r n Begin h = (refl, tt)
 fits t b cmd area r n Next h = (refl, tt)
 fits t b cmd area r n Result h = (refl, tt)
 
+-- What holds of each element of an array by value.
+each-holds : {D A : Type 0} (f : D → List Val → Fml) (to : A → D) (P : A → Type 0) → ((x : A) (vs : List Val) → shadow (f (to x) vs) → P x)
+    → (d : A) → P d → (xs : List A) (us : List Val) → shadow (each D f (map to xs) us) → (i : ℕ) → P (getD xs i d)
+each-holds f to P h d p [] us s i = p
+each-holds f to P h d p (x ∷ xs) [] s i = absurd s
+each-holds f to P h d p (x ∷ xs) (u ∷ us) s zero = h x (u ∷ []) (s .0)
+each-holds f to P h d p (x ∷ xs) (u ∷ us) s (suc i) = each-holds f to P h d p xs us (s .1) i
+
+byte : (x : Reply) (vs : List Val) → shadow (Struct (shape reply-type) .own (reply-type .to x) vs) → (i : ℕ) → Fits w8 (getD (x .bytes) i 0)
+byte x vs s i = search needs
+
+abbrev BytesOf : Reply → Type 0
+BytesOf x = Bytes (x .bytes)
+
+response-fits : (c : tie.Start) → FitResponse (c .args .brought .response)
+response-fits c =
+    let r = c .args .brought .response in
+    let g = c .good .1 .1 .1 .0 .1 .1 .1 .0 .1 .1 .1 in
+    record {
+      six = simp length-map at (g .0 .1 .0 .1);
+      small = record { each = λ i. elem-fits-field w8 w8 (r .pids) _ i (g .0 .1 .1) tt .fits };
+      replies = simp length-map at (g .1 .0 .1 .0 .1);
+      bytes = each-holds _ _ BytesOf (λ x vs s. record { each = λ i. byte x vs s i .fits }) noReply no-bytes (r .replies) _ (g .1 .0 .1 .1);
+    }
+
 returns : tie.Need-returns
 returns c =
     let w = c .before .before in
     let s = w .before .before .before in
     let a = s .args in
-    let g = s .good .1 .1 .1 .0 .1 .1 .1 .0 .1 .1 in
-    let r : FitResponse (a .brought .response)
-    = record {
-      six = simp length-map at (g .1 .0 .1 .0 .1);
-      small = record { each = λ i l. elem-fits-field w8 w8 (a .brought .response .pids) _ i (g .1 .0 .1 .1) tt .fits };
-      replies = simp length-map at (g .1 .1 .0 .1 .0 .1);
-    } in
     let n = simp length-map at (s .good .1 .1 .1 .0 .1 .1 .0 .1 .1 .0 .1 .0 .1) in
-    let f = fits (a .time) (a .brought) (now (a .cmd)) (now (a .area)) r n (a .call) (owed the-type the-laws (a .call) _ (s .good .1 .1 .0)) in
+    let f = fits (a .time) (a .brought) (now (a .cmd)) (now (a .area)) (response-fits s) n (a .call) (owed the-type the-laws (a .call) _ (s .good .1 .1 .0)) in
     found (a .state) (a .time) (a .brought) (now (a .cmd)) (now (a .area)) refl
     (refused-late (a .state) (a .time) (a .brought) (now (a .cmd)) (now (a .area)) (a .call) (f .1) (f .0) (sym (w .bad-time .ensures) ∙ c .before .if1 .taken) (c .refuse .ensures) refl)
 
@@ -119,15 +147,8 @@ returns-7 c =
     let g = c .before .before .before in
     let s = g .before .before .before .before in
     let a = s .args in
-    let x = s .good .1 .1 .1 .0 .1 .1 .1 .0 .1 .1 in
-    let r : FitResponse (a .brought .response)
-    = record {
-      six = simp length-map at (x .1 .0 .1 .0 .1);
-      small = record { each = λ i l. elem-fits-field w8 w8 (a .brought .response .pids) _ i (x .1 .0 .1 .1) tt .fits };
-      replies = simp length-map at (x .1 .1 .0 .1 .0 .1);
-    } in
     found (a .state) (a .time) (a .brought) (now (a .cmd)) (now (a .area)) (c .before .enum-told2 .given .1)
-    (done-timely (a .state) (a .time) (a .brought) (now (a .cmd)) (now (a .area)) _ r (sym (g .before .bad-time .ensures) ∙ g .if1 .left) (c .response .ensures, refl))
+    (done-timely (a .state) (a .time) (a .brought) (now (a .cmd)) (now (a .area)) _ (response-fits s) (sym (g .before .bad-time .ensures) ∙ g .if1 .left) (c .response .ensures, refl))
 
 returns-8 : tie.Need-returns-8
 unfolding callOf areaBy fills

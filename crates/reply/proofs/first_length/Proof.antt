@@ -3,8 +3,8 @@ use native.Mathlib.Omega.{arith}
 use lib.Seq.{getD-take}
 use Rattle.reply.specs.Rules.{firstLengthOf, lengthsOf}
 use borrow.Author.Needs.{needs}
-use Rattle.reply.proofs.first.Statement.{statement}
-use Rattle.reply.proofs.first.Tie as tie
+use Rattle.reply.proofs.first_length.Statement.{statement}
+use Rattle.reply.proofs.first_length.Tie as tie
 
 element-copy-out-result : tie.Need-element-copy-out-result
 element-copy-out-result c = search needs
@@ -23,5 +23,5 @@ returns-2 c =
     let e : (a .lines ≡ 0 → ⊥) = c .before .if1 .left in
     sym (getD-take (a .lines) (a .lengths) 0 0 (omega arith))
 
-pub first-spec : {M : Type 1} → statement M
-first-spec = tie.close (tie.spec element-copy-out-result returns returns-2)
+pub first-length-spec : {M : Type 1} → statement M
+first-length-spec = tie.close (tie.spec element-copy-out-result returns returns-2)

@@ -1,0 +1,4 @@
+pub mod Rules
+pub mod Laws
+pub mod Padding
+pub mod Range
