@@ -413,4 +413,5 @@ def main():
     (top / "crates/replay/stdout").write_bytes(b"".join(answer + b"\n" for _, answer in pairs if answer is not None))
 
 
-main()
+if __name__ == "__main__":
+    main()

@@ -1,4 +1,4 @@
 pub mod Rules
 pub mod Laws
 pub mod Padding
-pub mod Range
+pub mod Bound

@@ -14,24 +14,24 @@ use Rattle.reply.specs.declared.Reply.{Reply}
 use Rattle.value.specs.Rules.{head, maxWidth, widthOf, foldOf, dataOf, valueBy, valueOf}
 use Rattle.value.specs.Laws.{take-least}
 
--- The value as it was before A1, which is the Rust's: up to four bytes, whatever the PID.
-unfoldable pub earlierOf : Reply → ℕ
-earlierOf r = foldOf 0 (dataOf maxWidth r)
+-- The value as it was before A1: up to four bytes, whatever the PID. The Rust folds these too; that was run, not proved.
+unfoldable pub valueAsItWas : Reply → ℕ
+valueAsItWas r = foldOf 0 (dataOf maxWidth r)
 
 -- A line of n bytes has none behind the data: at most two more than the PID's length, if it has one.
 abbrev pub NoSurplus : DataLength → ℕ → Type 0
 NoSurplus (Known d) n = n ≤ d + head
 NoSurplus Unknown n = Unit {0}
 
-by-length : (l : DataLength) (r : Reply) → NoSurplus l (length (firstLine r)) → valueBy l r ≡ earlierOf r
-unfolding valueBy earlierOf dataOf widthOf
+by-length : (l : DataLength) (r : Reply) → NoSurplus l (length (firstLine r)) → valueBy l r ≡ valueAsItWas r
+unfolding valueBy valueAsItWas dataOf widthOf
 by-length (Known d) r h =
     let short : length (drop head (firstLine r)) ≤ d = rw length-drop (omega arith) in
     ap (foldOf 0) (take-least d maxWidth (drop head (firstLine r)) short)
 by-length Unknown r h = refl
 
 -- Where the first line has at most two bytes more than the length, the value is what it was.
-pub value-as-it-was : (p : ℕ) (r : Reply) → NoSurplus (dataLengthOf p) (length (firstLine r)) → valueOf p r ≡ earlierOf r
+pub value-as-it-was : (p : ℕ) (r : Reply) → NoSurplus (dataLengthOf p) (length (firstLine r)) → valueOf p r ≡ valueAsItWas r
 unfolding valueOf
 value-as-it-was p r h = by-length (dataLengthOf p) r h
 

@@ -69,4 +69,4 @@ pub record Claim : Type 0 where
   pub manager : (t : ℕ) (st : Settings) (ps : Profiles) (cs : List Call)
       → boxAfter t st ps cs .manager ≡ readAfter t st ps cs .manager
   -- "the revs came out in the millions": they no longer can
-  pub range : (t : ℕ) (st : Settings) (ps : Profiles) (cs : List Call) → Calls cs → boxAfter t st ps cs .desk .revs .value ≤ mostRevs
+  pub bound : (t : ℕ) (st : Settings) (ps : Profiles) (cs : List Call) → Calls cs → boxAfter t st ps cs .desk .revs .value ≤ mostRevs

@@ -26,7 +26,7 @@ use Rattle.desk.specs.declared.Revs.{Revs}
 use Rattle.pid.specs.Laws.{revs-length}
 use Rattle.reply.specs.declared.Reply.{Reply}
 use Rattle.reply.specs.declared.Response.{Response}
-use Rattle.value.specs.Range.{value-below}
+use Rattle.value.specs.Bound.{value-below}
 use Rattle.value.specs.Rules.{widthOf, valueOf}
 use Rattle.waits.specs.Rules.{collectedOf}
 use Rattle.obd2.specs.Accepted.{manager-free}
@@ -125,8 +125,8 @@ read-below old (takeControl t) f h = h
 read-below old (link t c) f h = h
 read-below old (round t c) f h = h
 
-abbrev InRange : State → Type 0
-InRange s = revsOf s .value ≤ mostRevs
+abbrev Bounded : State → Type 0
+Bounded s = revsOf s .value ≤ mostRevs
 
 answering : (s : State) (t : ℕ) (r : Response) → acceptedBy (step s (response t r) .answer) ≡ true → (i : ℕ) → i < r .count → Answers s t r i
 unfolding doneOf managerBy managerRows
@@ -151,5 +151,5 @@ claim = record {
   revs = λ t st ps cs. sym (run-read cs (startOf t st ps .state)) ∙ ap (λ (r : Revs). read r (happened (startOf t st ps .state) cs)) (start-revs t st ps);
   profiles = λ t st ps cs. ap (λ (r : Reading). r .profiles) (sym (box-read t st ps cs));
   manager = λ t st ps cs. ap (λ (r : Reading). r .manager) (sym (box-read t st ps cs));
-  range = λ t st ps cs f. run-keeps InRange (λ s c x h e. rw (← done-read s c e) (read-below (revsOf s) c x h)) cs (startOf t st ps .state) f (rw (start-revs t st ps) (omega arith));
+  bound = λ t st ps cs f. run-keeps Bounded (λ s c x h e. rw (← done-read s c e) (read-below (revsOf s) c x h)) cs (startOf t st ps .state) f (rw (start-revs t st ps) (omega arith));
 }
