@@ -38,6 +38,10 @@ async fn dongle_calls(state: Arc<State>) {
                 finish_reconnect(&mut connection, attempt, &state);
                 answer(if connection.is_some() { "connected" } else { "failed" }.into());
             }
+            Word::OnlySlow => {
+                let only = begins_only_slow(connection.as_ref(), &polling, &state);
+                answer(if only { "yes" } else { "no" }.into());
+            }
             Word::Begin => {
                 answer("ok".into());
                 let requests = polling.poll_pids(&mut connection, &state).await;
@@ -47,6 +51,14 @@ async fn dongle_calls(state: Arc<State>) {
             _ => {}
         }
     }
+}
+
+/// Whether a round begun now is one of document 02's A2: connected, single, in Ratio mode, the fast list empty.
+fn begins_only_slow(connection: Option<&DongleSession>, polling: &PollingState, state: &State) -> bool {
+    let Some(dongle) = connection else { return false };
+    let obd2 = &state.config.lock().unwrap().obd2;
+    let single = !obd2.use_multi_pid || dongle.server_state().multi_pid() == FeatureSupport::No;
+    single && obd2.slow_poll_mode == SlowPollMode::Ratio && polling.fast_pids.is_empty()
 }
 
 /// A client's cache, and its ask while it waits.
@@ -260,10 +272,16 @@ impl Oracle {
         Some(format!("show {} {lists} {table} {line} {revs}", now()))
     }
 
-    // ---- What the generator of histories looks up, so that it writes no refusal
+    // ---- What the generator of histories looks up, so that it writes no refusal and no round that the Rust has otherwise
 
     pub fn connected(&self) -> bool {
         self.state.supported_pids.lock().unwrap().ready
+    }
+
+    /// With no round open.
+    pub fn begins_only_slow(&mut self) -> bool {
+        run(&mut self.dongle, Some(Word::OnlySlow));
+        take_answer().as_deref() == Some("yes")
     }
 
     pub fn control_messages(&self) -> usize {

@@ -18,6 +18,7 @@ pub enum Word {
     Take,
     Reconnect,
     Connect(Option<DongleSession>),
+    OnlySlow,
     Begin,
     Next,
     Outcome(Outcome),

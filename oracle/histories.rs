@@ -1,5 +1,5 @@
 //! Writes histories without a refusal, from a seed. The generator runs the oracle along and looks at its
-//! answers, so it knows which round is open, which result is due and who waits.
+//! answers, so it knows which round is open, which result is due, who waits, and what a round would begin with.
 
 use super::*;
 use crate::chance::Chance;
@@ -182,7 +182,7 @@ impl Generator<'_> {
             "tick" if self.room(time, 0) => String::new(),
             "settings" => format!(" {}", self.settings()),
             "take" if free && self.seldom(self.oracle.control_messages() == 0) => String::new(),
-            "begin" if free => String::new(),
+            "begin" if free && self.may_begin() => String::new(),
             "reconnect" if free && self.seldom(self.oracle.connected()) => String::new(),
             "connect" if free && self.seldom(self.oracle.connected()) => self.connect(),
             "next" if !free && self.history.due.is_empty() => String::new(),
@@ -195,6 +195,12 @@ impl Generator<'_> {
     /// Always, but seldom where the call would say little.
     fn seldom(&mut self, little: bool) -> bool {
         !little || self.chance.one_in(6)
+    }
+
+    /// Whether both programs have the round that would begin: in one of document 02's A2 (connected, single, Ratio mode, the
+    /// fast list empty) the Rust asks a slow PID only at its ratio. The amended Rust has A2's rule.
+    fn may_begin(&mut self) -> bool {
+        cfg!(amended) || !self.oracle.begins_only_slow()
     }
 
     /// Whether the client is there and doesn't wait already.

@@ -2,7 +2,7 @@
 """Writes crates/replay/stdin and crates/replay/stdout.
 
 No answer here is the program's own. They come from three places:
-- oracle/examples: worked out by hand from document 01, and given by the Rust too;
+- oracle/examples: worked out by hand from documents 01 and 02, and given by the Rust too (amended-*: by the amended one);
 - oracle/sample: the Rust's answers to generated histories (`oracle/compare --sample 41 900 oracle/sample/calls.txt
   oracle/sample/answers.txt` wrote them);
 - the cases below, worked out by hand: what the Rust has no answer for (refusals, filler bytes behind a value, lines that
@@ -169,6 +169,28 @@ connect 2009 0 → failed
 reconnect 2009 → yes
 reconnect 3008 → no
 reconnect 3009 → yes
+# 12 and 13 in a round with slow PIDs alone (document 02, A2): index, clock and the query that is due stay
+start 0 {DEFAULTS} 1,0C,0,-,1 1,05,1,-,1 1,0F,1,-,1 → started
+take 0 → set 05 1
+connect 0 1 * 0 {ABSENT} → connected
+begin 0 → ok
+take 0 → refused 12
+begin 0 → refused 12
+result 0 0 0 → refused 13
+next 0 → query 05 -
+show → show 0 0 - 0 05 05s+,0Cf+,0Fs+ 0Cf,0Fs -
+next 0 → refused 13
+take 0 → refused 12
+result 0 0 0 1,1 → ok
+next 0 → end 1
+next 0 → refused 13
+take 0 → set 0C 0
+take 0 → set 0F 1
+show → show 0 0 0C 0 05,0F 05s+,0Cf+,0Fs+ - -
+begin 0 → ok
+next 0 → query 0C -
+result 0 0 0 1,1 → ok
+next 0 → end 1
 """
 
 # Document 02, A1. J1979's data lengths: 0D has one byte, 0C two, 24 four, 64 five, 66 none. No PID has three, or more

@@ -23,7 +23,7 @@ use Rattle.plan.specs.Steps.{padded, chunkOf, leftOf, takeOf}
 use Rattle.poller.specs.Calls.{multiAllowed, beginOf}
 use Rattle.poller.specs.Cases.{begin-multi}
 use Rattle.rounds.specs.Cases.{slow-sent, first-some, multi-end, multi-some, next-in}
-use Rattle.rounds.specs.Next.{issueOf, endOf, slowDue, nextOf}
+use Rattle.rounds.specs.Next.{issueOf, endOf, slowPasses, slowOf, nextOf}
 use Rattle.poller.specs.State.{pidsOf}
 use Rattle.poller.specs.declared.Phase.{Phase}
 use Rattle.poller.specs.declared.Phase.the-variants.{First, Test, Multi}
@@ -60,13 +60,17 @@ module _ (p : Poller) (t : ℕ) where
       rw (a, n) (issue-one _ _ _, issue-fast _ _ _)
 
   -- A passed slow test asks the slow entry at the index, where the connection stands.
-  pub asks-slow : p .round .phase ≡ Test → slowDue (p .settings) t (p .clock) (p .requests) ≡ true → p .link .connected ≡ true → Sound (p .slow) → 0 < p .slow .len
+  pub slow-asks : slowPasses p t ≡ true → p .link .connected ≡ true → Sound (p .slow) → 0 < p .slow .len
+      → Asks (slowOf p t) (getD (entries (p .slow)) (p .slow .index) 0) (getD (p .counts) (getD (entries (p .slow)) (p .slow .index) 0) 0)
+      × (slowOf p t .poller .slow ≡ withIndex (p .slow) ((p .slow .index + 1) % p .slow .len))
+  slow-asks due up s some =
+      let n = next-some (p .slow) s some in
+      rw (slow-sent p t due (rw (n, up)), n) (issue-one _ _ _, issue-slow _ _ _)
+
+  pub asks-slow : p .round .phase ≡ Test → slowPasses p t ≡ true → p .link .connected ≡ true → Sound (p .slow) → 0 < p .slow .len
       → Asks (nextOf p t) (getD (entries (p .slow)) (p .slow .index) 0) (getD (p .counts) (getD (entries (p .slow)) (p .slow .index) 0) 0)
       × (nextOf p t .poller .slow ≡ withIndex (p .slow) ((p .slow .index + 1) % p .slow .len))
-  asks-slow test due up s some =
-      let n = next-some (p .slow) s some in
-      let a = next-in p t test ∙ slow-sent p t due (rw (n, up)) in
-      rw (a, n) (issue-one _ _ _, issue-slow _ _ _)
+  asks-slow test due up s some = rw (next-in p t test) (slow-asks due up s some)
 
 -- A single round moves the fast index by one, whatever the result and the slow test.
 pub single-fast : (p : Poller) (t u v : ℕ) (o : Outcome) → p .round .phase ≡ First → Sound (p .fast) → 0 < p .fast .len

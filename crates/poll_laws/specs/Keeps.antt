@@ -10,8 +10,8 @@ use Rattle.pid_list.specs.Rules.{entries, nextOf as nextPid}
 use Rattle.plan.specs.Steps.{takeOf}
 use Rattle.plan.specs.declared.Chunk.{Chunk}
 use Rattle.rounds.specs.Cases.{slow-not, slow-sent, slow-unsent, first-some, first-none, multi-end, multi-some, result-due}
-use Rattle.rounds.specs.Next.{issueOf, endOf, slowDue, slowOf, firstOf, multiOf, stepIn, nextOf}
-use Rattle.rounds.specs.Result.{resultOf}
+use Rattle.rounds.specs.Next.{issueOf, endOf, slowPasses, slowOf, firstOf, multiOf, stepIn, nextOf}
+use Rattle.rounds.specs.Result.{roundAfter, resultOf}
 use Rattle.rounds.specs.declared.Outcome.{Outcome}
 use Rattle.poller.specs.declared.Phase.{Phase}
 use Rattle.poller.specs.declared.Phase.the-variants.{Closed, First, FastDue, Test, SlowDue, Multi, MultiDue, Over}
@@ -57,7 +57,7 @@ end-kept p r k = record {
 
 slow-kept : (p : Poller) (t : ℕ) → Kept p (slowOf p t .poller)
 slow-kept p t =
-    cases _ (slowDue (p .settings) t (p .clock) (p .requests))
+    cases _ (slowPasses p t)
     (λ e. cases _ (nextPid (p .slow) .found && p .link .connected)
     (λ f. rw (slow-sent p t e f) (issue-kept p _ SlowDue _ (record {
       fast-entries = refl;
@@ -119,13 +119,15 @@ pub next-kept : (p : Poller) (t : ℕ) → Kept p (nextOf p t .poller)
 unfolding nextOf
 next-kept p t = step-kept (p .round .phase) p t
 
--- A result leaves the lists, the fast requests, the settings and the plan.
+-- A result leaves the lists, the fast requests, the settings, the plan and whether the round began without a fast PID.
 pub record Untouched (p r : Poller) : Type 0 where
   pub fast : r .fast ≡ p .fast
   pub slow : r .slow ≡ p .slow
   pub requests : r .requests ≡ p .requests
   pub settings : r .settings ≡ p .settings
   pub plan : r .plan ≡ p .plan
+  pub began : r .round .nofast ≡ p .round .nofast
 
 pub result-untouched : (p : Poller) (t : ℕ) (o : Outcome) → Untouched p (resultOf p t o)
-result-untouched p t o = rw (result-due p t o) (record { fast = refl; slow = refl; requests = refl; settings = refl; plan = refl })
+unfolding roundAfter
+result-untouched p t o = rw (result-due p t o) (record { fast = refl; slow = refl; requests = refl; settings = refl; plan = refl; began = refl })

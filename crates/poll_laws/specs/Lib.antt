@@ -5,3 +5,4 @@ pub mod Ratio
 pub mod Counts
 pub mod Asked
 pub mod Single
+pub mod OnlySlow

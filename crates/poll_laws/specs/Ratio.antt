@@ -11,7 +11,7 @@ use Rattle.config.specs.declared.Settings.{Settings}
 use Rattle.pid_list.specs.Rules.{nextOf as nextPid}
 use Rattle.poll_laws.specs.Keeps.{result-untouched}
 use Rattle.rounds.specs.Cases.{slow-not, slow-sent, slow-unsent, first-some, result-due, next-in}
-use Rattle.rounds.specs.Next.{issueOf, endOf, slowDue, slowOf, nextOf}
+use Rattle.rounds.specs.Next.{issueOf, endOf, slowDue, slowPasses, slowOf, nextOf}
 use Rattle.rounds.specs.Result.{roundAfter, resultOf}
 use Rattle.rounds.specs.declared.Outcome.{Outcome}
 use Rattle.poller.specs.declared.Phase.the-variants.{First, FastDue, Test}
@@ -22,40 +22,42 @@ abbrev pub requestsAfter : ℕ → ℕ → ℕ
 requestsAfter ratio r = pick (leb ratio (moreOf r)) 0 (moreOf r)
 
 -- The slow test starts the fast requests anew where it passes, and else leaves them.
-pub slow-requests : (p : Poller) (t : ℕ) → slowOf p t .poller .requests ≡ pick (slowDue (p .settings) t (p .clock) (p .requests)) 0 (p .requests)
+pub slow-requests : (p : Poller) (t : ℕ) → slowOf p t .poller .requests ≡ pick (slowPasses p t) 0 (p .requests)
 unfolding issueOf endOf
 slow-requests p t =
-    cases _ (slowDue (p .settings) t (p .clock) (p .requests))
+    cases _ (slowPasses p t)
     (λ e. cases _ (nextPid (p .slow) .found && p .link .connected)
     (λ f. rw (slow-sent p t e f, e))
     (λ f. rw (slow-unsent p t e f, e)))
     (λ e. rw (slow-not p t e, e))
 
-ratio-test : (p : Poller) (t : ℕ) → (p .settings .mode ≡ 0 → ⊥) → slowOf p t .poller .requests ≡ pick (leb (p .settings .ratio) (p .requests)) 0 (p .requests)
+-- In a round that began with a fast PID it goes by the ratio.
+ratio-test : (p : Poller) (t : ℕ) → (p .settings .mode ≡ 0 → ⊥) → p .round .nofast ≡ false → slowOf p t .poller .requests ≡ pick (leb (p .settings .ratio) (p .requests)) 0 (p .requests)
 unfolding slowDue
-ratio-test p t m = slow-requests p t ∙ rw (ne-eqb (p .settings .mode) 0 m)
+ratio-test p t m some = slow-requests p t ∙ rw (ne-eqb (p .settings .mode) 0 m, some)
 
 -- The three calls of a single round with a fast PID: the fast query, its result, the slow test.
 pub next-fast : (p : Poller) (t : ℕ) → p .round .phase ≡ First → nextPid (p .fast) .found ≡ true
     → (nextOf p t .poller .round .phase ≡ FastDue) × (nextOf p t .poller .requests ≡ moreOf (p .requests)) × (nextOf p t .poller .settings ≡ p .settings)
+    × (nextOf p t .poller .round .nofast ≡ p .round .nofast)
 unfolding issueOf
-next-fast p t e some = rw (next-in p t e ∙ first-some p t some) (refl, refl, refl)
+next-fast p t e some = rw (next-in p t e ∙ first-some p t some) (refl, refl, refl, refl)
 
 pub result-fast : (p : Poller) (t : ℕ) (o : Outcome) → p .round .phase ≡ FastDue → resultOf p t o .round .phase ≡ Test
 unfolding roundAfter
 result-fast p t o e = rw (result-due p t o, e)
 
--- In Ratio mode the fast requests rise by one or go to 0.
-pub ratio-round : (p : Poller) (t u v : ℕ) (o : Outcome) → p .round .phase ≡ First → nextPid (p .fast) .found ≡ true → (p .settings .mode ≡ 0 → ⊥)
+-- In Ratio mode, in a round that began with a fast PID, the fast requests rise by one or go to 0.
+pub ratio-round : (p : Poller) (t u v : ℕ) (o : Outcome) → p .round .phase ≡ First → nextPid (p .fast) .found ≡ true → p .round .nofast ≡ false → (p .settings .mode ≡ 0 → ⊥)
     → nextOf (resultOf (nextOf p t .poller) u o) v .poller .requests ≡ requestsAfter (p .settings .ratio) (p .requests)
-ratio-round p t u v o first some m =
+ratio-round p t u v o first some began m =
     let q = nextOf p t .poller in
     let r = resultOf q u o in
     let a = next-fast p t first some in
     let k = result-untouched q u o in
     let s : r .settings ≡ p .settings = k .settings ∙ a .2 in
     let n : r .requests ≡ moreOf (p .requests) = k .requests ∙ a .1 in
-    rw (next-in r v (result-fast q u o (a .0)), ratio-test r v (λ z. m (sym (ap (λ (x : Settings). x .mode) s) ∙ z)), s, n)
+    rw (next-in r v (result-fast q u o (a .0)), ratio-test r v (λ z. m (sym (ap (λ (x : Settings). x .mode) s) ∙ z)) (k .began ∙ a .3 ∙ began), s, n)
 
 -- Whether the test passes in one of n such rounds on end.
 unfoldable pub passesWithin : ℕ → ℕ → ℕ → Bool

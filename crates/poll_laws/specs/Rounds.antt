@@ -18,7 +18,7 @@ use Rattle.plan.specs.Whole.{round-length}
 use Rattle.poller.specs.Calls.{multiAllowed, beginOf}
 use Rattle.poller.specs.Cases.{begin-over, begin-multi, begin-single}
 use Rattle.rounds.specs.Cases.{slow-not, slow-sent, slow-unsent, first-some, first-none, multi-end, multi-some, result-due}
-use Rattle.rounds.specs.Next.{issueOf, endOf, slowDue, slowOf, firstOf, multiOf, stepIn, nextOf}
+use Rattle.rounds.specs.Next.{issueOf, endOf, slowPasses, slowOf, firstOf, multiOf, stepIn, nextOf}
 use Rattle.rounds.specs.Result.{isLost, endsMulti, phaseAfter, roundAfter, resultOf}
 use Rattle.poller.specs.State.{openOf, dueOf}
 use Rattle.rounds.specs.declared.Outcome.{Outcome}
@@ -56,7 +56,7 @@ end-stride p q n e = ended (ap End e) refl
 slow-stride : (p : Poller) (t : ℕ) → Stride p 1 (slowOf p t)
 unfolding issueOf
 slow-stride p t =
-    cases _ (slowDue (p .settings) t (p .clock) (p .requests))
+    cases _ (slowPasses p t)
     (λ e.
     cases _ (nextPid (p .slow) .found && p .link .connected)
     (λ f. rw (slow-sent p t e f) (issued refl refl refl (omega arith)))

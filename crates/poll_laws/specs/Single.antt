@@ -10,7 +10,7 @@ use Rattle.plan.specs.Steps.{takeOf}
 use Rattle.poller.specs.Calls.{beginOf}
 use Rattle.poller.specs.Cases.{begin-over}
 use Rattle.rounds.specs.Cases.{slow-not, slow-sent, slow-unsent, first-some, multi-end, multi-some, result-due, next-in}
-use Rattle.rounds.specs.Next.{issueOf, endOf, slowDue, slowOf, firstOf, nextOf}
+use Rattle.rounds.specs.Next.{issueOf, endOf, slowPasses, slowOf, firstOf, nextOf}
 use Rattle.rounds.specs.Result.{resultOf}
 use Rattle.poller.specs.State.{closedRound, withRound, withSettings}
 use Rattle.rounds.specs.declared.Outcome.{Outcome}
@@ -20,7 +20,7 @@ use Rattle.rounds.specs.declared.Step.the-variants.{End}
 
 module _ (p : Poller) (t : ℕ) where
   abbrev due : Bool
-  due = slowDue (p .settings) t (p .clock) (p .requests)
+  due = slowPasses p t
 
   abbrev sent : Bool
   sent = nextPid (p .slow) .found && p .link .connected

@@ -2,6 +2,7 @@
 -- is open is the box's test (12).
 use mathlib.Core.Bool.{Bool, _&&_, not}
 use Prim.Native.Nat.{ℕ}
+use lib.Dec.{eqb}
 use Rattle.base.specs.Choice.{pick}
 use Rattle.config.specs.declared.Settings.{Settings}
 use Rattle.config.specs.declared.PidPriority.the-variants.{Fast, Slow}
@@ -41,11 +42,16 @@ reconnectOf p t = record { poller = withLink p (linkCheck (p .link) t .link); ye
 abbrev pub multiAllowed : Bool → Bool → Bool
 multiAllowed switch denied = switch && not denied
 
--- What a round begins with: nothing without a connection; else its groups, or a single round's fast query.
+-- A list without a PID.
+abbrev pub noneIn : PidList → Bool
+noneIn l = eqb (l .len) 0
+
+-- What a round begins with: nothing without a connection; else its groups, or a single round's fast query. It keeps its settings
+-- and whether its fast list is empty (document 02, A2).
 unfoldable pub beginOf : Poller → Settings → Poller
 beginOf p s =
     pick (p .link .connected)
     (pick (multiAllowed (s .multi) (isNo (p .link .features .multi)))
-    (withRound (withPlan (withSettings p s) (planOf (p .fast) (p .slow) (p .counts) (p .link .known) (s .maxpids))) (openedRound Multi))
-    (withRound (withSettings p s) (openedRound First)))
-    (withRound (withSettings p s) (openedRound Over))
+    (withRound (withPlan (withSettings p s) (planOf (p .fast) (p .slow) (p .counts) (p .link .known) (s .maxpids))) (openedRound Multi (noneIn (p .fast))))
+    (withRound (withSettings p s) (openedRound First (noneIn (p .fast)))))
+    (withRound (withSettings p s) (openedRound Over (noneIn (p .fast))))

@@ -6,7 +6,7 @@ use Rattle.config.specs.declared.Settings.{Settings}
 use Rattle.link.specs.Rules.{isNo, connectOf as linkUp, failOf as linkDown, reconnectOf as linkCheck}
 use Rattle.link.specs.declared.Session.{Session}
 use Rattle.plan.specs.Steps.{planOf}
-use Rattle.poller.specs.Calls.{connectOf, failOf, reconnectOf, multiAllowed, beginOf}
+use Rattle.poller.specs.Calls.{connectOf, failOf, reconnectOf, multiAllowed, noneIn, beginOf}
 use Rattle.poller.specs.State.{openedRound, withLink, withRound, withPlan, withSettings}
 use Rattle.poller.specs.declared.Phase.the-variants.{First, Multi, Over}
 use Rattle.poller.specs.declared.Poller.{Poller}
@@ -25,16 +25,16 @@ module _ (p : Poller) where
   reconnect-done t = refl
 
   module _ (s : Settings) where
-    pub begin-over : p .link .connected ≡ false → beginOf p s ≡ withRound (withSettings p s) (openedRound Over)
+    pub begin-over : p .link .connected ≡ false → beginOf p s ≡ withRound (withSettings p s) (openedRound Over (noneIn (p .fast)))
     unfolding beginOf
     begin-over f = rw f
 
     pub begin-multi : p .link .connected ≡ true → multiAllowed (s .multi) (isNo (p .link .features .multi)) ≡ true
-        → beginOf p s ≡ withRound (withPlan (withSettings p s) (planOf (p .fast) (p .slow) (p .counts) (p .link .known) (s .maxpids))) (openedRound Multi)
+        → beginOf p s ≡ withRound (withPlan (withSettings p s) (planOf (p .fast) (p .slow) (p .counts) (p .link .known) (s .maxpids))) (openedRound Multi (noneIn (p .fast)))
     unfolding beginOf
     begin-multi f g = rw (f, g)
 
     pub begin-single : p .link .connected ≡ true → multiAllowed (s .multi) (isNo (p .link .features .multi)) ≡ false
-        → beginOf p s ≡ withRound (withSettings p s) (openedRound First)
+        → beginOf p s ≡ withRound (withSettings p s) (openedRound First (noneIn (p .fast)))
     unfolding beginOf
     begin-single f g = rw (f, g)

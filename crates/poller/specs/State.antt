@@ -45,12 +45,12 @@ noQuery = record { pids = replicate 6 0; count = 0; ecu = 0 }
 unfoldable pub pidsOf : Query → List ℕ
 pidsOf q = take (q .count) (q .pids)
 
--- A round that has asked nothing yet.
-abbrev pub openedRound : Phase → Round
-openedRound phase = record { phase = phase; issued = 0; due = noQuery }
+-- A round that has asked nothing yet, and whether its fast list was empty at begin.
+abbrev pub openedRound : Phase → Bool → Round
+openedRound phase nofast = record { phase = phase; nofast = nofast; issued = 0; due = noQuery }
 
 abbrev pub closedRound : Round
-closedRound = openedRound Closed
+closedRound = openedRound Closed false
 
 -- The poller before any call, at its time.
 unfoldable pub startOf : ℕ → Poller

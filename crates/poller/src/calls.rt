@@ -105,27 +105,28 @@ fn multi_allowed(switch: bool, denied: bool) -> bool
     false
 }
 
-// A round is opened with the settings of now. Without a connection it has nothing to ask.
+// A round is opened with the settings of now, and keeps whether its fast list is empty. Without a connection it has nothing to ask.
 pub fn begin(mut p: Poller, settings: Settings) -> Poller
     ensures { λ r. ⌜ r ≡ beginOf p settings ⌝ }
 {
     p.settings = settings;
+    let fast = p.fast;
+    let nofast = fast.len == 0;
     let link = p.link;
     if !link.connected {
-        p.round = super::opened(Phase::Over);
+        p.round = super::opened(Phase::Over, nofast);
         return p;
     }
     let features = link.features;
     let denied = link::refuses(features);
     if multi_allowed(settings.multi, denied) {
-        let fast = p.fast;
         let slow = p.slow;
         let counts = p.counts;
         let known = link.known;
         p.plan = plan::make(fast, slow, counts, known, settings.maxpids);
-        p.round = super::opened(Phase::Multi);
+        p.round = super::opened(Phase::Multi, nofast);
         return p;
     }
-    p.round = super::opened(Phase::First);
+    p.round = super::opened(Phase::First, nofast);
     p
 }

@@ -35,9 +35,10 @@ pub enum Phase {
     Over,
 }
 
-// A round: its phase, how many queries it has issued, and the query whose result is due.
+// A round: its phase, whether its fast list was empty at begin, how many queries it has issued, and the query whose result is due.
 pub struct Round {
     pub phase: Phase,
+    pub nofast: bool,
     pub issued: u32,
     pub due: Query,
 }
@@ -110,12 +111,13 @@ pub fn no_query() -> Query
 }
 
 // A round that has asked nothing yet.
-fn opened(phase: Phase) -> Round
-    ensures { λ r. ⌜ r ≡ openedRound phase ⌝ }
+fn opened(phase: Phase, nofast: bool) -> Round
+    ensures { λ r. ⌜ r ≡ openedRound phase nofast ⌝ }
 {
     let due = no_query();
     Round {
         phase: phase,
+        nofast: nofast,
         issued: 0,
         due: due,
     }
@@ -125,7 +127,7 @@ fn opened(phase: Phase) -> Round
 pub fn closed() -> Round
     ensures { λ r. ⌜ r ≡ closedRound ⌝ }
 {
-    opened(Phase::Closed)
+    opened(Phase::Closed, false)
 }
 
 // Whether a round is open.

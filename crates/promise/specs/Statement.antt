@@ -42,9 +42,9 @@ pub record Demand : Type 0 where
       → (there t st ps (settling t st ps cs ds) ≡ takeAll (run (boxAfter t st ps cs) ds))
       × Calls (settling t st ps cs ds)
       × (openOver false (sofar t st ps (settling t st ps cs ds)) ≡ false)
-  -- each listed PID is asked within a stated number of rounds, the numbers are in `Asked`, "while the connection stays up,
-  -- every round is a single one run to its end and no further control message is taken nor setting changed": `Lasting`,
-  -- of the calls `cs` after the list `before`
+  -- each listed PID is asked within a stated number of rounds, "while the connection stays up, every round is a single one run to
+  -- its end and no further control message is taken nor setting changed": `Lasting`, of the calls `cs` after the list `before`.
+  -- The numbers are in `Asked`, document 02's A2 for an empty fast list among them.
   pub asked : (t : ℕ) (st : Settings) (ps : Profiles) (before cs : List Call) → Calls before → LastingSince t st ps before cs
       → let s = there t st ps before in Asked (entries (s .poller .fast)) (entries (s .poller .slow)) (read t st ps before .settings) (rounds (happened s cs))
   -- "An accepted cache ask hands out a reading exactly when a reply for its PID came since that client registered or, if

@@ -158,11 +158,14 @@ pub data Steady : Seen → List Event → Type 0 where
 
 -- Of the fast and slow PIDs, the settings and the rounds: "any stretch of as many consecutive rounds as the fast
 -- list has entries asks each of them; in Ratio mode with that list not empty, any stretch of slow length x
--- max(1, ratio) consecutive rounds asks each PID of the slow list."
+-- max(1, ratio) consecutive rounds asks each PID of the slow list." And of document 02, A2, with the fast list empty: "each slow PID
+-- being asked within as many rounds as the slow list has entries".
 pub record Asked (fast slow : List ℕ) (st : Settings) (rs : List (List ℕ)) : Type 0 where
   pub fast-asked : (k q : ℕ) → k + length fast ≤ length rs → 0 < times q fast → 0 < times q (joined (take (length fast) (drop k rs)))
   pub slow-asked : (st .mode ≡ 0 → ⊥) → 0 < length fast
       → (k q : ℕ) → k + length slow * max 1 (st .ratio) ≤ length rs → 0 < times q slow → 0 < times q (joined (take (length slow * max 1 (st .ratio)) (drop k rs)))
+  pub only-slow-asked : (st .mode ≡ 0 → ⊥) → length fast ≡ 0
+      → (k q : ℕ) → k + length slow ≤ length rs → 0 < times q slow → 0 < times q (joined (take (length slow) (drop k rs)))
 
 -- "as long as the connection stays up, every round is a single one run to its end, no further control message is taken and no
 -- setting changed": what is so before it, with no round open, and the history. A ratio has 32 bits.

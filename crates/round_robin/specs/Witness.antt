@@ -1,6 +1,6 @@
--- Some history meets the claim's hypotheses: a start with a Fast and a Slow PID, their messages taken, a connection
--- made, and two rounds, the second of which passes the slow test. All of it is computed from the start. That the lists
--- are sound holds of every history (crates/agreement).
+-- Some histories meet the claim's hypotheses. A start with a Fast and a Slow PID, their messages taken, a connection made, and two
+-- rounds, the second of which passes the slow test; and one with two Slow PIDs alone, where both rounds pass it. All of it is
+-- computed from the start. That the lists are sound holds of every history (crates/agreement).
 use mathlib.Core.Bool.{Bool, true, false, _&&_}
 use mathlib.Core.List.{List, [], _∷_, map}
 use mathlib.Core.Path.{_≡_, refl, ap, _∙_}
@@ -48,7 +48,7 @@ use Rattle.obd2.specs.State.{started}
 use Rattle.obd2.specs.declared.State.{State}
 use Rattle.obd2.specs.declared.Answer.the-variants.{Accepted}
 use Rattle.obd2.specs.declared.Said.the-variants.{Taken}
-use Rattle.round_robin.specs.Claim.{Seen, readBy, seen, seenOver, Quiet, Steady, none, more, openOver, roundsIn, rounds, read, sofar, LastingSince}
+use Rattle.round_robin.specs.Claim.{Seen, readBy, seen, seenOver, Quiet, Steady, none, more, openOver, roundsIn, rounds, read, sofar, there, LastingSince}
 
 abbrev profile : ℕ → ℕ → ℕ → Profile
 profile kind pid priority = record { kind = kind; pid = pid; priority = priority; limited = false; threshold = 0; enabled = true }
@@ -56,6 +56,10 @@ profile kind pid priority = record { kind = kind; pid = pid; priority = priority
 -- PID 12 Fast, PID 5 Slow.
 abbrev pub two : Profiles
 two = record { list = profile 0 12 0 ∷ profile 1 5 1 ∷ replicate 14 (profile 0 0 0); count = 2 }
+
+-- PID 5 and PID 15, both Slow.
+abbrev pub overlays : Profiles
+overlays = record { list = profile 1 5 1 ∷ profile 1 15 1 ∷ replicate 14 (profile 0 0 0); count = 2 }
 
 -- Ratio mode, a slow PID in every second round.
 abbrev pub second : Settings
@@ -69,12 +73,6 @@ outcome kind = record { kind = kind; features = unknownFeatures; learnt = replic
 
 abbrev pub opening : List Call
 opening = takeControl 0 ∷ takeControl 1 ∷ connect 2 session ∷ []
-
-abbrev pub box : State
-box = run (startOf 0 second two .state) opening
-
-abbrev pub before : Seen
-before = read 0 second two opening
 
 -- A `next` with no round open and a begin in an open one are refused; a result may be a timeout.
 abbrev turns : List (ℕ × RoundCall)
@@ -93,11 +91,29 @@ turns =
     ∷ (14, Next)
     ∷ []
 
+-- The same without a fast query.
+abbrev slow-turns : List (ℕ × RoundCall)
+slow-turns =
+    (3, Next)
+    ∷ (4, Begin)
+    ∷ (5, Next)
+    ∷ (6, Begin)
+    ∷ (7, Result (outcome TimedOut))
+    ∷ (8, Next)
+    ∷ (9, Begin)
+    ∷ (10, Next)
+    ∷ (11, Result (outcome Replied))
+    ∷ (12, Next)
+    ∷ []
+
 abbrev turn : ℕ × RoundCall → Call
 turn x = round (x .0) (x .1)
 
 abbrev pub calls : List Call
 calls = map turn turns
+
+abbrev pub slow-calls : List Call
+slow-calls = map turn slow-turns
 
 -- Whether the connection is up after each event.
 abbrev allUp : Seen → List Event → Bool
@@ -134,41 +150,54 @@ all-quiet (x ∷ xs) k s off h =
     let q : Quiet k e = record { stays-up = both-left (seen k e .up) later h; single = λ _. rw off; none-taken = none-taken s (x .0) (x .1); unchanged = same } in
     more q (all-quiet xs (seen k e) s' (ap (λ (y : Settings). y .multi) same ∙ off) (both-right (seen k e .up) later h))
 
--- What the history comes to.
-record Computed : Type 0 where
-  asks-both : rounds (happened box calls) ≡ (12 ∷ []) ∷ (12 ∷ 5 ∷ []) ∷ []
-  fast-is : entries (box .poller .fast) ≡ 12 ∷ []
-  slow-is : entries (box .poller .slow) ≡ 5 ∷ []
-  settings-are : before .settings ≡ second
-  closed : openOver false (sofar 0 second two opening) ≡ false
-  up : before .up ≡ true
-  all-up : allUp before (happened box calls) ≡ true
+-- What a history comes to: the rounds, the lists before it, and what is read before it.
+record Computed (ps : Profiles) (cs : List Call) (fast slow : List ℕ) (rs : List (List ℕ)) : Type 0 where
+  rounds-are : rounds (happened (there 0 second ps opening) cs) ≡ rs
+  fast-is : entries (there 0 second ps opening .poller .fast) ≡ fast
+  slow-is : entries (there 0 second ps opening .poller .slow) ≡ slow
+  settings-are : read 0 second ps opening .settings ≡ second
+  closed : openOver false (sofar 0 second ps opening) ≡ false
+  up : read 0 second ps opening .up ≡ true
+  all-up : allUp (read 0 second ps opening) (happened (there 0 second ps opening) cs) ≡ true
 
-computed : Computed
+computed : Computed two calls (12 ∷ []) (5 ∷ []) ((12 ∷ []) ∷ (12 ∷ 5 ∷ []) ∷ []) × Computed overlays slow-calls [] (5 ∷ 15 ∷ []) ((5 ∷ []) ∷ (15 ∷ []) ∷ [])
 unfolding roundsIn openOver seenOver startOf startRefusal started startManager registerOf noTable through news entryAfter swept tidings countsOf priorityOf wishedBy wishOf joinedWish inForce isFast speed registeredOf toldOf emptyOf sendAll messages pushOut pushAllOf pushOf emptyLine unknownMode unknownOf many badProfiles run step refusalOf rowsOf linkRows roundRows doneOf linkBy roundBy overRange withinOf sumOf countedOf lengthsOf totalOf firstOf someOf takeOf appliedOf setOf removeOf fitOf swapOut appendOf place entries sizeOf wrap emptyList connectOf linkUp startLink noRanges startPoller happened nextPid beginOf nextOf firstQuery slowOf slowDue issueOf endOf moreOf padded keepOf teachOf teachAll learnOf linkAfter roundAfter resultOf pidsOf
-computed = record {
-  asks-both = refl;
-  fast-is = refl;
-  slow-is = refl;
-  settings-are = refl;
-  closed = refl;
-  up = refl;
-  all-up = refl;
+computed = (
+  record { rounds-are = refl; fast-is = refl; slow-is = refl; settings-are = refl; closed = refl; up = refl; all-up = refl },
+  record { rounds-are = refl; fast-is = refl; slow-is = refl; settings-are = refl; closed = refl; up = refl; all-up = refl },
+)
+
+lasts : (ps : Profiles) (xs : List (ℕ × RoundCall)) {fast slow : List ℕ} {rs : List (List ℕ)} → Computed ps (map turn xs) fast slow rs → LastingSince 0 second ps opening (map turn xs)
+lasts ps xs c = record {
+  closed = c .closed;
+  up = c .up;
+  fits = rw (c .settings-are) (omega arith);
+  steady = all-quiet xs (read 0 second ps opening) (there 0 second ps opening) (rw (c .settings-are)) (c .all-up);
 }
 
--- The hypotheses within the claim: Ratio mode, a PID in each list, and as many rounds as both stretches need.
-pub stretches : (before .settings .mode ≡ 0 → ⊥)
+-- The hypotheses of the claim ..
+pub since-start : LastingSince 0 second two opening calls
+since-start = lasts two turns (computed .0)
+
+pub slow-since-start : LastingSince 0 second overlays opening slow-calls
+slow-since-start = lasts overlays slow-turns (computed .1)
+
+-- .. and within it: Ratio mode, a PID in each list, and as many rounds as both stretches need; ..
+pub stretches : let box = there 0 second two opening in
+    (read 0 second two opening .settings .mode ≡ 0 → ⊥)
     × (0 < times 12 (entries (box .poller .fast)))
     × (0 < times 5 (entries (box .poller .slow)))
     × (0 + length (entries (box .poller .fast)) ≤ length (rounds (happened box calls)))
-    × (0 + length (entries (box .poller .slow)) * max 1 (before .settings .ratio) ≤ length (rounds (happened box calls)))
+    × (0 + length (entries (box .poller .slow)) * max 1 (read 0 second two opening .settings .ratio) ≤ length (rounds (happened box calls)))
 unfolding times
-stretches = rw (computed .asks-both, computed .fast-is, computed .slow-is, computed .settings-are) ((λ e. omega arith), omega arith, omega arith, omega arith, omega arith)
+stretches = let c = computed .0 in rw (c .rounds-are, c .fast-is, c .slow-is, c .settings-are) ((λ e. omega arith), omega arith, omega arith, omega arith, omega arith)
 
-pub since-start : LastingSince 0 second two opening calls
-since-start = record {
-  closed = computed .closed;
-  up = computed .up;
-  fits = rw (computed .settings-are) (omega arith);
-  steady = all-quiet turns before box (rw (computed .settings-are)) (computed .all-up);
-}
+-- .. Ratio mode, the fast list empty, two slow PIDs and as many rounds.
+pub slow-stretches : let box = there 0 second overlays opening in
+    (read 0 second overlays opening .settings .mode ≡ 0 → ⊥)
+    × (length (entries (box .poller .fast)) ≡ 0)
+    × (0 < times 5 (entries (box .poller .slow)))
+    × (0 < times 15 (entries (box .poller .slow)))
+    × (0 + length (entries (box .poller .slow)) ≤ length (rounds (happened box slow-calls)))
+unfolding times
+slow-stretches = let c = computed .1 in rw (c .rounds-are, c .fast-is, c .slow-is, c .settings-are) ((λ e. omega arith), refl, omega arith, omega arith, omega arith)

@@ -12,7 +12,7 @@ use Rattle.base.specs.Count.{moreOf}
 use Rattle.link.specs.Rules.{isNo}
 use Rattle.pid_list.specs.Rules.{nextOf as nextPid}
 use Rattle.plan.specs.Steps.{chunkOf, takeOf}
-use Rattle.rounds.specs.Next.{issueOf, endOf, slowDue, slowOf, firstOf, multiOf, stepIn, nextOf}
+use Rattle.rounds.specs.Next.{issueOf, endOf, slowPasses, slowOf, firstOf, multiOf, stepIn, nextOf}
 use Rattle.rounds.specs.Numbers.{stepValues, valuesFrom}
 use Rattle.rounds.specs.Result.{nothing, teachOf, teachAll, isLost, lessonsOf, linkAfter, roundAfter, clockAfter, resultOf}
 use Rattle.poller.specs.State.{withFast, withSlow, withPlan}
@@ -26,16 +26,16 @@ use Rattle.rounds.specs.declared.Stepped.{Stepped}
 
 module _ (p : Poller) where
   module _ (t : ℕ) where
-    pub slow-not : slowDue (p .settings) t (p .clock) (p .requests) ≡ false → slowOf p t ≡ endOf p
+    pub slow-not : slowPasses p t ≡ false → slowOf p t ≡ endOf p
     unfolding slowOf
     slow-not e = rw e
 
-    pub slow-sent : slowDue (p .settings) t (p .clock) (p .requests) ≡ true → (nextPid (p .slow) .found && p .link .connected) ≡ true
+    pub slow-sent : slowPasses p t ≡ true → (nextPid (p .slow) .found && p .link .connected) ≡ true
         → slowOf p t ≡ issueOf (withSlow p (nextPid (p .slow) .list) (p .clock) 0) SlowDue (chunkOf (nextPid (p .slow) .pid ∷ []))
     unfolding slowOf
     slow-sent e f = rw (e, f)
 
-    pub slow-unsent : slowDue (p .settings) t (p .clock) (p .requests) ≡ true → (nextPid (p .slow) .found && p .link .connected) ≡ false
+    pub slow-unsent : slowPasses p t ≡ true → (nextPid (p .slow) .found && p .link .connected) ≡ false
         → slowOf p t ≡ endOf (withSlow p (nextPid (p .slow) .list) t 0)
     unfolding slowOf
     slow-unsent e f = rw (e, f)
@@ -100,7 +100,7 @@ Answers p r = stepValues (r .step) (r .poller .round .due) ≡ valuesFrom (p .co
 module _ (p : Poller) where
   slow-answers : (t : ℕ) → Answers p (slowOf p t)
   unfolding issueOf endOf
-  slow-answers t = cases _ (slowDue (p .settings) t (p .clock) (p .requests))
+  slow-answers t = cases _ (slowPasses p t)
       (λ e. cases _ (nextPid (p .slow) .found && p .link .connected) (λ f. rw (slow-sent p t e f)) (λ f. rw (slow-unsent p t e f)))
       (λ e. rw (slow-not p t e))
 

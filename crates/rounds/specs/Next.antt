@@ -1,5 +1,5 @@
 -- What a round asks next, and its end: document 01, "Rounds (poller)", third to fifth paragraph.
-use mathlib.Core.Bool.{Bool, _&&_}
+use mathlib.Core.Bool.{Bool, _&&_, _||_}
 use mathlib.Core.List.{[], _∷_}
 use Prim.Native.Nat.{ℕ, _-_}
 use lib.Dec.{leb, eqb}
@@ -22,6 +22,7 @@ unfoldable pub issueOf : Poller → Phase → Chunk → Stepped
 issueOf p phase c = record {
   poller = withRound p (record {
     phase = phase;
+    nofast = p .round .nofast;
     issued = moreOf (p .round .issued);
     due = record { pids = c .pids; count = c .count; ecu = getD (p .counts) (getD (c .pids) 0 0) 0 };
   });
@@ -32,14 +33,19 @@ issueOf p phase c = record {
 unfoldable pub endOf : Poller → Stepped
 endOf p = record { poller = withRound p closedRound; step = Step.End (p .round .issued) }
 
--- The slow test. Interval: at >= interval since the last slow poll. Ratio: at >= ratio fast requests.
-unfoldable pub slowDue : Settings → ℕ → ℕ → ℕ → Bool
-slowDue s t clock requests = pick (eqb (s .mode) 0) (leb (s .interval) (t - clock)) (leb (s .ratio) requests)
+-- The slow test. Interval: at >= interval since the last slow poll. Ratio: at >= ratio fast requests, and always in a round that
+-- began with an empty fast list (document 02, A2).
+unfoldable pub slowDue : Settings → Bool → ℕ → ℕ → ℕ → Bool
+slowDue s nofast t clock requests = pick (eqb (s .mode) 0) (leb (s .interval) (t - clock)) (nofast || leb (s .ratio) requests)
+
+-- The test of an open round: by its begin's settings and fast list, and by what is so now.
+abbrev pub slowPasses : Poller → ℕ → Bool
+slowPasses p t = slowDue (p .settings) (p .round .nofast) t (p .clock) (p .requests)
 
 -- A passed test starts the fast requests anew and moves the slow index. Where nothing is sent, it sets the slow clock.
 unfoldable pub slowOf : Poller → ℕ → Stepped
 slowOf p t =
-    pick (slowDue (p .settings) t (p .clock) (p .requests))
+    pick (slowPasses p t)
     (pick (nextPid (p .slow) .found && p .link .connected)
     (issueOf (withSlow p (nextPid (p .slow) .list) (p .clock) 0) SlowDue (chunkOf (nextPid (p .slow) .pid ∷ [])))
     (endOf (withSlow p (nextPid (p .slow) .list) t 0)))

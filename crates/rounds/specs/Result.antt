@@ -71,6 +71,7 @@ phaseAfter Over over = Over
 unfoldable pub roundAfter : Round → Bool → Bool → Round
 roundAfter r denied gone = record {
   phase = phaseAfter (r .phase) (endsMulti (r .due .count) denied gone);
+  nofast = r .nofast;
   issued = r .issued;
   due = noQuery;
 }

@@ -40,6 +40,7 @@ fn issue(mut p: Poller, phase: Phase, c: Chunk) -> Stepped
     let issued = base::more(round.issued);
     let after = Round {
         phase: phase,
+        nofast: round.nofast,
         issued: issued,
         due: due,
     };
@@ -63,13 +64,17 @@ fn end(mut p: Poller) -> Stepped
     }
 }
 
-// The slow test: by the time since the last slow poll, or by the fast requests since the last passed test.
-fn slow_due(s: Settings, time: u64, clock: u64, requests: u32) -> bool
-    ensures { λ r. ⌜ r ≡ slowDue s time clock requests ⌝ }
+// The slow test: by the time since the last slow poll, or by the fast requests since the last passed test. Without a fast PID
+// these don't grow, so in Ratio mode a round that began without one passes.
+fn slow_due(s: Settings, nofast: bool, time: u64, clock: u64, requests: u32) -> bool
+    ensures { λ r. ⌜ r ≡ slowDue s nofast time clock requests ⌝ }
 {
     if s.mode == 0 {
         let since = base::elapsed(clock, time);
         return s.interval <= since;
+    }
+    if nofast {
+        return true;
     }
     s.ratio <= requests
 }
@@ -85,7 +90,8 @@ fn slow(mut p: Poller, time: u64) -> Stepped
     ensures { λ r. ⌜ r ≡ slowOf p time ⌝ }
 {
     let settings = p.settings;
-    if !slow_due(settings, time, p.clock, p.requests) {
+    let round = p.round;
+    if !slow_due(settings, round.nofast, time, p.clock, p.requests) {
         return end(p);
     }
     let list = p.slow;

@@ -107,6 +107,7 @@ fn round_after(r: Round, denied: bool, gone: bool) -> Round
     let none = poller::no_query();
     Round {
         phase: phase,
+        nofast: r.nofast,
         issued: r.issued,
         due: none,
     }
