@@ -272,7 +272,7 @@ impl Oracle {
         Some(format!("show {} {lists} {table} {line} {revs}", now()))
     }
 
-    // ---- What the generator of histories looks up, so that it writes no refusal and no round that the Rust has otherwise
+    // ---- What the generator of histories looks up, so that it writes no refusal and no round of document 02's A2
 
     pub fn connected(&self) -> bool {
         self.state.supported_pids.lock().unwrap().ready

@@ -63,6 +63,7 @@ impl Generator<'_> {
         let (length, kind) = match c.below(100) {
             0..=59 => (1 + c.below(40), Kind::Mixed),
             60..=84 => (40 + c.below(300), Kind::Mixed),
+            85..=90 if cfg!(amended) => (40 + c.below(300), Kind::Slow),
             85..=96 => (40 + c.below(300), Kind::Polling),
             97 => (1000 + c.below(3000), Kind::Mixed),
             98 => (1000 + c.below(3000), Kind::Polling),
@@ -197,8 +198,8 @@ impl Generator<'_> {
         !little || self.chance.one_in(6)
     }
 
-    /// Whether both programs have the round that would begin: in one of document 02's A2 (connected, single, Ratio mode, the
-    /// fast list empty) the Rust asks a slow PID only at its ratio. The amended Rust has A2's rule.
+    /// Whether the round that would begin can be compared. One of document 02's A2 (connected, single, Ratio mode, the fast list
+    /// empty) can't: the Rust asks a slow PID in it only at its ratio. The amended Rust has A2's rule.
     fn may_begin(&mut self) -> bool {
         cfg!(amended) || !self.oracle.begins_only_slow()
     }
@@ -224,7 +225,7 @@ impl Generator<'_> {
         }
         let met = |&&(meets, time): &&(Meets, u64)| meets == Meets::of(call) && time > h.time;
         let targets: Vec<u64> = h.targets.iter().filter(met).map(|&(_, time)| time).collect();
-        let step = if h.kind == Kind::Polling { 20 } else { h.step };
+        let step = if h.kind.polls() { 20 } else { h.step };
         let time = match c.below(10) {
             0..=4 => h.time + c.below(step),
             5..=6 if !targets.is_empty() => c.pick(&targets) + c.below(3) - 1,
@@ -268,7 +269,7 @@ impl Generator<'_> {
         if self.history.kind == Kind::Crowd {
             return "0,450,6,40,0,100000,0,6".into();
         }
-        let (c, polling) = (&mut self.chance, self.history.kind == Kind::Polling);
+        let (c, polling) = (&mut self.chance, self.history.kind.polls());
         let interval = c.pick(&[0, 1, 40, 450, 450, 1000, 5000, u64::MAX]);
         let ratio = c.pick(&[0, 1, 1, 2, 3, 6, u32::MAX]);
         let promote = c.pick(&[0, 1, 40, 40, 100, 60_000, u64::MAX]);
@@ -281,7 +282,7 @@ impl Generator<'_> {
     }
 
     fn profiles(&mut self) -> String {
-        let many = if self.history.kind == Kind::Polling { 16 } else { 1 };
+        let many = if self.history.kind.polls() { 16 } else { 1 };
         let count = self.chance.pick(&[0, 1, 2, 3, 5, 16, many, many]);
         let mut normal = false;
         let mut text = String::new();
@@ -289,7 +290,8 @@ impl Generator<'_> {
             let kind = if normal { 1 + self.chance.below(2) } else { self.chance.below(3) };
             normal |= kind == 0;
             let (pid, threshold) = (self.pid(), self.threshold());
-            let (priority, enabled) = (self.chance.below(2), self.chance.below(3).min(1));
+            let priority = if self.history.kind == Kind::Slow { 1 } else { self.chance.below(2) };
+            let enabled = self.chance.below(3).min(1);
             text += &format!(" {kind},{pid:02X},{priority},{threshold},{enabled}");
         }
         text
@@ -392,7 +394,8 @@ impl Generator<'_> {
             return reply;
         }
         // The Rust reads on behind the data length (document 02, A1): the first line has no surplus bytes.
-        let first = MODE01_PID_DATA_LENGTHS[usize::from(pid)].map_or(LONGEST_REPLY, |data| u64::from(data) + 2);
+        let first =
+            MODE01_PID_DATA_LENGTHS[usize::from(pid)].map_or(LONGEST_REPLY, |data| u64::from(data) + 2);
         let lines = self.lines(&format!("41{pid:02X}"), first);
         let reply = match lines {
             None => format!(" {pid:02X}"),
@@ -449,7 +452,7 @@ impl Generator<'_> {
     }
 
     fn result(&mut self) -> String {
-        let often = if self.history.kind == Kind::Polling { 40 } else { 8 };
+        let often = if self.history.kind.polls() { 40 } else { 8 };
         let kind = if self.chance.one_in(often) { 2 } else { self.chance.pick(&[0, 0, 0, 1]) };
         let state = if self.chance.one_in(often) { 2 } else { self.chance.pick(&[0, 1, 1]) };
         let mut text = format!(" {kind} {state}");

@@ -11,17 +11,24 @@ pub enum Kind {
     Mixed,
     /// Rounds, single and multi, on a connection that is seldom lost.
     Polling,
+    /// The same with Slow profiles alone and few who wait, so that the fast list is mostly empty.
+    Slow,
     /// Every PID waits in turn and messages are hardly taken, so that the control line fills.
     Crowd,
 }
 
 impl Kind {
+    pub fn polls(self) -> bool {
+        matches!(self, Kind::Polling | Kind::Slow)
+    }
+
     pub fn weight(self, c: &mut Chance, call: &str, weight: u64) -> u64 {
         match (self, call) {
             (Kind::Mixed, "connect" | "next" | "result") => weight * c.pick(&[1, 1, 2, 4]),
             (Kind::Mixed, _) => weight * c.pick(&[0, 1, 1, 2, 2, 4, 8]),
-            (Kind::Polling, "connect" | "take" | "begin" | "next" | "result") => 10 * weight,
-            (Kind::Polling, _) => weight,
+            (Kind::Polling | Kind::Slow, "connect" | "take" | "begin" | "next" | "result") => 10 * weight,
+            (Kind::Slow, "ask" | "waiting" | "consumed") => 1,
+            (Kind::Polling | Kind::Slow, _) => weight,
             (Kind::Crowd, "waiting") => 1000,
             (Kind::Crowd, "settings") => 0,
             (Kind::Crowd, _) => 1,
@@ -32,7 +39,7 @@ impl Kind {
         match c.pick(&[1, 2, 3, 5, 8, 20, 256]) {
             256 => (0..=255).collect(),
             // Neighbours that stand in J1979's table, so that their lengths are known.
-            count if self == Kind::Polling => (0..count as Pid).map(|n| n + 3).collect(),
+            count if self.polls() => (0..count as Pid).map(|n| n + 3).collect(),
             count => (0..count).map(|_| some_pid(c)).collect(),
         }
     }

@@ -1,5 +1,5 @@
 //! The oracle: obd2.rs itself, answering histories line by line. oracle/build puts it together: what stands
-//! below this file's lines is cut out of the Rust and changed as replacements.txt says.
+//! below this file's lines is cut out of the Rust and changed as replacements.txt says (and amendments.txt).
 //!
 //!     oracle                                 answers the histories on standard input
 //!     oracle histories SEED CALLS            writes histories of the box without a refusal

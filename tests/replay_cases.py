@@ -169,28 +169,40 @@ connect 2009 0 → failed
 reconnect 2009 → yes
 reconnect 3008 → no
 reconnect 3009 → yes
-# 12 and 13 in a round with slow PIDs alone (document 02, A2): index, clock and the query that is due stay
-start 0 {DEFAULTS} 1,0C,0,-,1 1,05,1,-,1 1,0F,1,-,1 → started
+# 12 and 13 in a round with slow PIDs alone (document 02, A2): index and due query stay, and the slow clock, 300
+start 0 {DEFAULTS} 1,05,1,-,1 1,0F,1,-,1 1,2F,0,-,1 → started
 take 0 → set 05 1
-connect 0 1 * 0 {ABSENT} → connected
-begin 0 → ok
-take 0 → refused 12
-begin 0 → refused 12
-result 0 0 0 → refused 13
-next 0 → query 05 -
-show → show 0 0 - 0 05 05s+,0Cf+,0Fs+ 0Cf,0Fs -
-next 0 → refused 13
-take 0 → refused 12
-result 0 0 0 1,1 → ok
-next 0 → end 1
-next 0 → refused 13
-take 0 → set 0C 0
 take 0 → set 0F 1
-show → show 0 0 0C 0 05,0F 05s+,0Cf+,0Fs+ - -
-begin 0 → ok
-next 0 → query 0C -
-result 0 0 0 1,1 → ok
-next 0 → end 1
+connect 0 1 * 0 {ABSENT} → connected
+begin 100 → ok
+take 110 → refused 12
+begin 110 → refused 12
+connect 110 0 → refused 12
+connect 110 1 * 0 {ABSENT} → refused 12
+reconnect 110 → refused 12
+result 110 0 0 → refused 13
+show → show 100 0 - 0 05,0F 05s+,0Fs+,2Ff+ 2Ff -
+next 200 → query 05 -
+next 210 → refused 13
+take 210 → refused 12
+show → show 200 0 - 1 05,0F 05s+,0Fs+,2Ff+ 2Ff -
+result 300 0 0 1,1 → ok
+result 310 0 0 → refused 13
+next 400 → end 1
+next 410 → refused 13
+result 410 0 0 → refused 13
+take 410 → set 2F 0
+settings 410 0,450,6,40,2000,4000,0,6 → ok
+begin 749 → ok
+next 749 → query 2F -
+result 749 0 0 1,1 → ok
+next 749 → end 1
+begin 749 → ok
+next 749 → query 2F 1
+result 749 0 0 1,1 → ok
+next 750 → query 0F -
+result 750 0 0 1,1 → ok
+next 750 → end 2
 """
 
 # Document 02, A1. J1979's data lengths: 0D has one byte, 0C two, 24 four, 64 five, 66 none. No PID has three, or more

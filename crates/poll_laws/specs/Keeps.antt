@@ -126,8 +126,8 @@ pub record Untouched (p r : Poller) : Type 0 where
   pub requests : r .requests ≡ p .requests
   pub settings : r .settings ≡ p .settings
   pub plan : r .plan ≡ p .plan
-  pub began : r .round .nofast ≡ p .round .nofast
+  pub nofast : r .round .nofast ≡ p .round .nofast
 
 pub result-untouched : (p : Poller) (t : ℕ) (o : Outcome) → Untouched p (resultOf p t o)
 unfolding roundAfter
-result-untouched p t o = rw (result-due p t o) (record { fast = refl; slow = refl; requests = refl; settings = refl; plan = refl; began = refl })
+result-untouched p t o = rw (result-due p t o) (record { fast = refl; slow = refl; requests = refl; settings = refl; plan = refl; nofast = refl })

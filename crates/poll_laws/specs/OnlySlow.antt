@@ -10,17 +10,16 @@ use Rattle.base.specs.Choice.{pick}
 use Rattle.config.specs.declared.Settings.{Settings}
 use Rattle.link.specs.Rules.{isNo}
 use Rattle.pid_list.specs.Members.{Sound}
-use Rattle.pid_list.specs.Robin.{next-none}
+use Rattle.pid_list.specs.Robin.{next-none, next-some}
 use Rattle.pid_list.specs.Rules.{entries, withIndex}
 use Rattle.poll_laws.specs.Asked.{Asks, slow-asks}
-use Rattle.poll_laws.specs.Ratio.{slow-requests}
 use Rattle.poller.specs.Calls.{multiAllowed, noneIn, beginOf}
 use Rattle.poller.specs.Cases.{begin-single}
 use Rattle.poller.specs.State.{openedRound, closedRound, withRound, withSettings, withSlow}
-use Rattle.poller.specs.declared.Phase.the-variants.{First}
+use Rattle.poller.specs.declared.Phase.the-variants.{First, SlowDue}
 use Rattle.poller.specs.declared.Poller.{Poller}
-use Rattle.rounds.specs.Cases.{first-none, slow-unsent, next-in}
-use Rattle.rounds.specs.Next.{endOf, slowDue, slowPasses, slowOf, nextOf}
+use Rattle.rounds.specs.Cases.{first-none, slow-sent, slow-unsent, next-in}
+use Rattle.rounds.specs.Next.{issueOf, endOf, slowDue, slowPasses, slowOf, nextOf}
 use Rattle.rounds.specs.declared.Step.the-variants.{End}
 use Rattle.rounds.specs.declared.Stepped.{Stepped}
 
@@ -59,14 +58,20 @@ module _ (p : Poller) (s : Settings) (only : OnlySlow p s) (t : ℕ) where
       ∙ next-in begun t refl
       ∙ first-none begun t (rw (next-none (p .fast) (only .none)))
 
-  -- The slow entry at the index is asked, the index moves on by one, and the fast requests start anew.
+  -- The slow entry at the index is asked, the index moves on by one, the fast requests start anew, and the slow clock stays till the
+  -- result comes (`result-clock`).
   pub only-slow-asks : Sound (p .slow) → 0 < p .slow .len
       → Asks (nextOf (beginOf p s) t) (getD (entries (p .slow)) (p .slow .index) 0) (getD (p .counts) (getD (entries (p .slow)) (p .slow .index) 0) 0)
       × (nextOf (beginOf p s) t .poller .slow ≡ withIndex (p .slow) ((p .slow .index + 1) % p .slow .len))
       × (nextOf (beginOf p s) t .poller .requests ≡ 0)
+      × (nextOf (beginOf p s) t .poller .clock ≡ p .clock)
+      × (nextOf (beginOf p s) t .poller .round .phase ≡ SlowDue)
+  unfolding issueOf
   only-slow-asks sound some =
+      let n = next-some (p .slow) sound some in
       let a = slow-asks begun t passes (only .up) sound some in
-      rw tests (a .0, a .1, slow-requests begun t ∙ rw passes)
+      let e = slow-sent begun t passes (rw (n, only .up)) in
+      rw tests (a .0, a .1, rw e, rw e, rw e)
 
   -- Both lists empty: the round ends without a query; the slow clock is set and the fast requests start anew.
   pub nothing-asked : p .slow .len ≡ 0

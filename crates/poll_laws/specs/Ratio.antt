@@ -57,7 +57,7 @@ ratio-round p t u v o first some began m =
     let k = result-untouched q u o in
     let s : r .settings ≡ p .settings = k .settings ∙ a .2 in
     let n : r .requests ≡ moreOf (p .requests) = k .requests ∙ a .1 in
-    rw (next-in r v (result-fast q u o (a .0)), ratio-test r v (λ z. m (sym (ap (λ (x : Settings). x .mode) s) ∙ z)) (k .began ∙ a .3 ∙ began), s, n)
+    rw (next-in r v (result-fast q u o (a .0)), ratio-test r v (λ z. m (sym (ap (λ (x : Settings). x .mode) s) ∙ z)) (k .nofast ∙ a .3 ∙ began), s, n)
 
 -- Whether the test passes in one of n such rounds on end.
 unfoldable pub passesWithin : ℕ → ℕ → ℕ → Bool

@@ -141,9 +141,9 @@ unfoldable pub joined : List (List ℕ) → List ℕ
 joined [] = []
 joined (xs ∷ rs) = xs ++ joined rs
 
--- ---- "as long as"
+-- ---- "while"
 
--- "the connection stays up, every round is a single one, no further control message is taken and no setting changed"
+-- "the connection stays up, every round is a single one .. and no further control message is taken nor setting changed"
 pub record Quiet (k : Seen) (e : Event) : Type 0 where
   pub stays-up : seen k e .up ≡ true
   pub single : mark e ≡ begun → multiAllowed (k .settings .multi) (isNo (k .multi)) ≡ false
@@ -156,10 +156,10 @@ pub data Steady : Seen → List Event → Type 0 where
 
 -- ---- the claim
 
--- Of the fast and slow PIDs, the settings and the rounds: "any stretch of as many consecutive rounds as the fast
--- list has entries asks each of them; in Ratio mode with that list not empty, any stretch of slow length x
--- max(1, ratio) consecutive rounds asks each PID of the slow list." And of document 02, A2, with the fast list empty: "each slow PID
--- being asked within as many rounds as the slow list has entries".
+-- Of the fast and slow PIDs, the settings and the rounds: "any stretch of as many rounds as the poller's fast list has entries asks
+-- each of them; in Ratio mode with that list not empty, any stretch of slow length × ratio (at least 1) rounds asks each PID of the
+-- poller's slow list." And by document 02, A2, with the fast list empty: "each slow PID being asked within as many rounds as the slow
+-- list has entries".
 pub record Asked (fast slow : List ℕ) (st : Settings) (rs : List (List ℕ)) : Type 0 where
   pub fast-asked : (k q : ℕ) → k + length fast ≤ length rs → 0 < times q fast → 0 < times q (joined (take (length fast) (drop k rs)))
   pub slow-asked : (st .mode ≡ 0 → ⊥) → 0 < length fast
@@ -167,8 +167,8 @@ pub record Asked (fast slow : List ℕ) (st : Settings) (rs : List (List ℕ)) :
   pub only-slow-asked : (st .mode ≡ 0 → ⊥) → length fast ≡ 0
       → (k q : ℕ) → k + length slow ≤ length rs → 0 < times q slow → 0 < times q (joined (take (length slow) (drop k rs)))
 
--- "as long as the connection stays up, every round is a single one run to its end, no further control message is taken and no
--- setting changed": what is so before it, with no round open, and the history. A ratio has 32 bits.
+-- "while the connection stays up, every round is a single one run to its end and no further control message is taken nor setting
+-- changed": what is so before it, with no round open, and the history. A ratio has 32 bits.
 pub record Lasting (opened : Bool) (k : Seen) (h : List Event) : Type 0 where
   pub closed : opened ≡ false
   pub up : k .up ≡ true

@@ -1,10 +1,10 @@
 -- Each completed round asks the next entry of the fast list, so as many of them as it has entries ask each. In Ratio mode each
--- passed test asks the next entry of the slow list, and one passes in each max(1, ratio) rounds; in each round where the fast list is
--- empty.
+-- passed test asks the next entry of the slow list. With a fast PID one test passes in each max(1, ratio) rounds, without one in each
+-- round.
 use mathlib.Core.Bool.{Bool, true, false}
 use mathlib.Core.List.{List, [], _∷_, _++_}
 use mathlib.Core.Path.{_≡_, refl, ap, sym, _∙_}
-use Prim.Native.Nat.{ℕ, zero, suc, _+_, _-_, _*_, _<_, _≤_, max}
+use Prim.Native.Nat.{ℕ, zero, suc, _+_, _-_, _*_, _<_, _≤_}
 use native.Mathlib.Nat.{suc-mul}
 use native.Mathlib.Omega.{arith}
 use lib.ListN.{length, take, drop, length-drop}
@@ -18,7 +18,7 @@ use Rattle.pid_list.specs.Robin.{picks, next-some, next-sound, each-once}
 use Rattle.pid_list.specs.Rules.{entries, nextOf}
 use Rattle.pid_list.specs.declared.PidList.{PidList}
 use Rattle.round_robin.specs.Claim.{joined}
-use Rattle.round_robin.specs.Machine.{wanted, firstly, counted, passed, unsent, failed, Tests, none, more}
+use Rattle.round_robin.specs.Machine.{wanted, stretch, firstly, counted, passed, unsent, failed, Tests, none, more}
 
 -- A list that has entries, as the calls leave it.
 pub record Live (l : PidList) : Type 0 where
@@ -48,8 +48,8 @@ turns-picks l m t q =
 -- ---- one more request
 
 module _ (st : Settings) where
-  -- After the fast query the test wants at most max(1, ratio) - 1 requests more.
-  ready : (nofast : Bool) (n : ℕ) → wanted st nofast ≤ counted nofast n + (max 1 (wanted st nofast) - 1)
+  -- When a round makes its test, at most one fast request less than the stretch has rounds is missing.
+  ready : (nofast : Bool) (n : ℕ) → wanted st nofast ≤ counted nofast n + (stretch st nofast - 1)
   ready true n = omega arith
   ready false n = omega (arith, more-is n)
 
@@ -70,9 +70,9 @@ module _ (st : Settings) where
 
 module _ (st : Settings) (nofast : Bool) (q : ℕ) (ratio-mode : st .mode ≡ 0 → ⊥) (fits : st .ratio ≤ most) where
   abbrev each : ℕ
-  each = max 1 (wanted st nofast)
+  each = stretch st nofast
 
-  -- A test that passes at the latest at the end of m + 1 rounds, and j more in each max(1, ratio) behind them.
+  -- A test that passes at the latest at the end of m + 1 rounds, and j more, one in each stretch behind them.
   reach : (j m n k : ℕ) (l : PidList) → Live l → {xs : List ℕ} {f : PidList} {rs : List (List ℕ)} → Tests st nofast xs f l n rs
       → wanted st nofast ≤ n + m → (m + 1) + j * each ≤ k → k ≤ length rs → times q (picks (suc j) l) ≤ times q (joined (take k rs))
   unfolding picks joined times
@@ -99,11 +99,11 @@ record Later (st : Settings) (nofast : Bool) (f l : PidList) (rs : List (List �
   requests : ℕ
   fast-turns : Live f → Turns f fast
   slow-turns : Live l → Turns l slow
-  enough : wanted st nofast ≤ requests + (max 1 (wanted st nofast) - 1)
+  enough : wanted st nofast ≤ requests + (stretch st nofast - 1)
   tests : Tests st nofast (firstly nofast fast) (nextOf fast .list) slow requests rs
 
 module _ (st : Settings) (nofast : Bool) (f l : PidList) where
-  later : (k n : ℕ) (x y : PidList) {rs : List (List ℕ)} → (Live f → Turns f x) → (Live l → Turns l y) → wanted st nofast ≤ n + (max 1 (wanted st nofast) - 1)
+  later : (k n : ℕ) (x y : PidList) {rs : List (List ℕ)} → (Live f → Turns f x) → (Live l → Turns l y) → wanted st nofast ≤ n + (stretch st nofast - 1)
       → Tests st nofast (firstly nofast x) (nextOf x .list) y n rs → Later st nofast f l (drop k rs)
   later zero n x y v w o t = record { fast = x; slow = y; requests = n; fast-turns = v; slow-turns = w; enough = o; tests = t }
   later (suc k) n x y v w o none = record { fast = x; slow = y; requests = n; fast-turns = v; slow-turns = w; enough = o; tests = none }
@@ -114,21 +114,21 @@ module _ (st : Settings) (nofast : Bool) (f l : PidList) where
   from : (r : ℕ) (rs : List (List ℕ)) → Tests st nofast (firstly nofast f) (nextOf f .list) l (counted nofast r) rs → (k : ℕ) → Later st nofast f l (drop k rs)
   from r rs t k = later k (counted nofast r) f l (λ v. record { live = v; same = refl }) (λ v. record { live = v; same = refl }) (ready st nofast r) t
 
-  -- As many tests as there are entries, each within max(1, ratio) rounds.
+  -- As many passed tests as there are entries, each within a stretch.
   covers : (q : ℕ) (rs : List (List ℕ)) → Later st nofast f l rs → Live l → (st .mode ≡ 0 → ⊥) → st .ratio ≤ most → (n : ℕ) → length (entries l) ≡ n → 0 < times q (entries l)
-      → n * max 1 (wanted st nofast) ≤ length rs → 0 < times q (joined (take (n * max 1 (wanted st nofast)) rs))
+      → n * stretch st nofast ≤ length rs → 0 < times q (joined (take (n * stretch st nofast) rs))
   unfolding picks times
   covers q rs w v m fits zero e some h = absurd (let a = rw e at (turns-picks l (w .slow) (w .slow-turns v) q) in omega arith)
   covers q rs w v m fits (suc n) e some h =
-      let one = max 1 (wanted st nofast) in
-      let s = suc-mul n one in
-      let i = reach st nofast q m fits n (one - 1) (w .requests) (suc n * one) (w .slow) (w .slow-turns v .live) (w .tests) (w .enough) (omega arith) h in
+      let each = stretch st nofast in
+      let s = suc-mul n each in
+      let i = reach st nofast q m fits n (each - 1) (w .requests) (suc n * each) (w .slow) (w .slow-turns v .live) (w .tests) (w .enough) (omega arith) h in
       let p = rw e at (turns-picks l (w .slow) (w .slow-turns v) q) in
       omega arith
 
   pub slow-covers : (r : ℕ) (rs : List (List ℕ)) → Tests st nofast (firstly nofast f) (nextOf f .list) l (counted nofast r) rs → (k q : ℕ)
-      → Live l → (st .mode ≡ 0 → ⊥) → st .ratio ≤ most → k + length (entries l) * max 1 (wanted st nofast) ≤ length rs → 0 < times q (entries l)
-      → 0 < times q (joined (take (length (entries l) * max 1 (wanted st nofast)) (drop k rs)))
+      → Live l → (st .mode ≡ 0 → ⊥) → st .ratio ≤ most → k + length (entries l) * stretch st nofast ≤ length rs → 0 < times q (entries l)
+      → 0 < times q (joined (take (length (entries l) * stretch st nofast) (drop k rs)))
   slow-covers r rs t k q v m fits h some = covers q (drop k rs) (from r rs t k) v m fits (length (entries l)) refl some (rw length-drop (omega arith))
 
 pub fast-covers : (st : Settings) (f l : PidList) → Live f → (r : ℕ) (rs : List (List ℕ)) → Tests st false (firstly false f) (nextOf f .list) l (counted false r) rs → (k q : ℕ)

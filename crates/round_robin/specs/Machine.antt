@@ -3,7 +3,7 @@
 use mathlib.Core.Bool.{Bool, true, false}
 use mathlib.Core.List.{List, [], _∷_, _++_, append-nil}
 use mathlib.Core.Path.{_≡_}
-use Prim.Native.Nat.{ℕ}
+use Prim.Native.Nat.{ℕ, max}
 use lib.Dec.{leb}
 use Rattle.base.specs.Choice.{pick}
 use Rattle.base.specs.Count.{moreOf}
@@ -22,6 +22,10 @@ pub data Stage : Type 0 where
 -- The fast requests at which the slow test passes in Ratio mode: none where the fast list is empty, for then it always passes.
 abbrev pub wanted : Settings → Bool → ℕ
 wanted st nofast = pick nofast 0 (st .ratio)
+
+-- In so many rounds the test passes at least once.
+abbrev pub stretch : Settings → Bool → ℕ
+stretch st nofast = max 1 (wanted st nofast)
 
 -- What a round asks before its slow test, and the fast requests then.
 abbrev pub firstly : Bool → PidList → List ℕ

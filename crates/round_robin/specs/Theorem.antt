@@ -2,7 +2,7 @@
 use mathlib.Core.Bool.{Bool, true, false}
 use mathlib.Core.List.{List, [], _∷_, map}
 use mathlib.Core.Path.{_≡_, refl, ap, sym, _∙_}
-use Prim.Native.Nat.{ℕ, _*_, _<_, max}
+use Prim.Native.Nat.{ℕ, _*_, _<_}
 use native.Mathlib.Omega.{arith}
 use lib.ListN.{length}
 use borrow.Author.Tests.{eq-eqb, ne-eqb}
@@ -21,7 +21,7 @@ use Rattle.obd2.specs.Refusals.{roundOpen}
 use Rattle.obd2.specs.declared.State.{State}
 use Rattle.round_robin.specs.Claim.{Seen, seenAt, seenOver, mark, openOver, rounds, Asked, Lasting, Claim, sofar, there, read, ClaimSince}
 use Rattle.round_robin.specs.Covers.{Live, fast-covers, slow-covers}
-use Rattle.round_robin.specs.Machine.{idle, wanted, Ahead}
+use Rattle.round_robin.specs.Machine.{idle, stretch, Ahead}
 use Rattle.round_robin.specs.Reading.{shut, start-seen, seen-run, start-open, open-run}
 use Rattle.round_robin.specs.Steps.{at-closed, box-runs}
 
@@ -35,7 +35,7 @@ live : (l : PidList) → Sound l → 0 < length (entries l) → Live l
 live l s h = record { sound = s; some = omega (arith, sound-length l s) }
 
 -- Without a fast PID every round passes the slow test.
-every-round : (st : Settings) (n : ℕ) → n * max 1 (wanted st true) ≡ n
+every-round : (st : Settings) (n : ℕ) → n * stretch st true ≡ n
 every-round st n = omega arith
 
 module _ (s : State) (lists : Both (s .poller .fast) (s .poller .slow)) (cs : List Call) (l : Lasting (roundOpen s) (seenAt s) (happened s cs)) where

@@ -61,7 +61,7 @@ two = record { list = profile 0 12 0 ∷ profile 1 5 1 ∷ replicate 14 (profile
 abbrev pub overlays : Profiles
 overlays = record { list = profile 1 5 1 ∷ profile 1 15 1 ∷ replicate 14 (profile 0 0 0); count = 2 }
 
--- Ratio mode, a slow PID in every second round.
+-- Ratio mode, with a ratio of 2.
 abbrev pub second : Settings
 second = record { mode = 1; interval = 450; ratio = 2; promotion = 40; demotion = 2000; removal = 4000; multi = false; maxpids = 6 }
 

@@ -38,7 +38,7 @@ endOf p = record { poller = withRound p closedRound; step = Step.End (p .round .
 unfoldable pub slowDue : Settings → Bool → ℕ → ℕ → ℕ → Bool
 slowDue s nofast t clock requests = pick (eqb (s .mode) 0) (leb (s .interval) (t - clock)) (nofast || leb (s .ratio) requests)
 
--- The test of an open round: by its begin's settings and fast list, and by what is so now.
+-- The test of an open round: by the settings and the fast list of its begin, the slow clock and the fast requests.
 abbrev pub slowPasses : Poller → ℕ → Bool
 slowPasses p t = slowDue (p .settings) (p .round .nofast) t (p .clock) (p .requests)
 
