@@ -11,7 +11,7 @@ pub enum Kind {
     Mixed,
     /// Rounds, single and multi, on a connection that is seldom lost.
     Polling,
-    /// The same with Slow profiles alone and few who wait, so that the fast list is mostly empty.
+    /// The same with Slow profiles alone and few who wait, so that the fast list is mostly empty: for the amended Rust.
     Slow,
     /// Every PID waits in turn and messages are hardly taken, so that the control line fills.
     Crowd,

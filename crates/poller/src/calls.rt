@@ -110,8 +110,7 @@ pub fn begin(mut p: Poller, settings: Settings) -> Poller
     ensures { λ r. ⌜ r ≡ beginOf p settings ⌝ }
 {
     p.settings = settings;
-    let fast = p.fast;
-    let nofast = fast.len == 0;
+    let nofast = p.fast.len == 0;
     let link = p.link;
     if !link.connected {
         p.round = super::opened(Phase::Over, nofast);
@@ -120,6 +119,7 @@ pub fn begin(mut p: Poller, settings: Settings) -> Poller
     let features = link.features;
     let denied = link::refuses(features);
     if multi_allowed(settings.multi, denied) {
+        let fast = p.fast;
         let slow = p.slow;
         let counts = p.counts;
         let known = link.known;

@@ -14,7 +14,7 @@ use Rattle.agreement.specs.Theorem.{claim, round-calls, box-good, all-taken}
 use Rattle.readings.specs.Theorem.{readings}
 use Rattle.round_robin.specs.Claim.{openOver, sofar, there, LastingSince}
 use Rattle.round_robin.specs.Theorem.{theorem-since, open-is}
-use Rattle.round_robin.specs.Witness.{two, overlays, second, opening, calls, slow-calls, since-start, slow-since-start}
+use Rattle.round_robin.specs.Witness.{two, overlays, second, opening, calls, since-start, slow-since-start}
 use Rattle.promise.specs.Statement.{settling, Ending, Demand}
 
 calls-append : (cs ds : List Call) → Calls cs → Calls ds → Calls (cs ++ ds)
@@ -60,5 +60,5 @@ demand =
 
 -- Some histories meet the hypotheses of `asked`, one with a fast PID and one with slow PIDs alone (document 02, A2); those of the
 -- other parts are met by every history, and `Rattle.readings.specs.Witness` has one in which readings are handed out.
-pub lasting : Calls opening × LastingSince 0 second two opening calls × LastingSince 0 second overlays opening slow-calls
+pub lasting : Calls opening × LastingSince 0 second two opening calls × LastingSince 0 second overlays opening calls
 lasting = (more tt (more tt (more tt none)), since-start, slow-since-start)

@@ -74,7 +74,8 @@ outcome kind = record { kind = kind; features = unknownFeatures; learnt = replic
 abbrev pub opening : List Call
 opening = takeControl 0 ∷ takeControl 1 ∷ connect 2 session ∷ []
 
--- A `next` with no round open and a begin in an open one are refused; a result may be a timeout.
+-- The calls of both histories. A `next` with no round open and a begin in an open one are refused; a result may be a timeout. Without
+-- a fast query the second round ends at 12, and the last two calls are refused.
 abbrev turns : List (ℕ × RoundCall)
 turns =
     (3, Next)
@@ -91,29 +92,11 @@ turns =
     ∷ (14, Next)
     ∷ []
 
--- The same without a fast query.
-abbrev slow-turns : List (ℕ × RoundCall)
-slow-turns =
-    (3, Next)
-    ∷ (4, Begin)
-    ∷ (5, Next)
-    ∷ (6, Begin)
-    ∷ (7, Result (outcome TimedOut))
-    ∷ (8, Next)
-    ∷ (9, Begin)
-    ∷ (10, Next)
-    ∷ (11, Result (outcome Replied))
-    ∷ (12, Next)
-    ∷ []
-
 abbrev turn : ℕ × RoundCall → Call
 turn x = round (x .0) (x .1)
 
 abbrev pub calls : List Call
 calls = map turn turns
-
-abbrev pub slow-calls : List Call
-slow-calls = map turn slow-turns
 
 -- Whether the connection is up after each event.
 abbrev allUp : Seen → List Event → Bool
@@ -150,37 +133,37 @@ all-quiet (x ∷ xs) k s off h =
     let q : Quiet k e = record { stays-up = both-left (seen k e .up) later h; single = λ _. rw off; none-taken = none-taken s (x .0) (x .1); unchanged = same } in
     more q (all-quiet xs (seen k e) s' (ap (λ (y : Settings). y .multi) same ∙ off) (both-right (seen k e .up) later h))
 
--- What a history comes to: the rounds, the lists before it, and what is read before it.
-record Computed (ps : Profiles) (cs : List Call) (fast slow : List ℕ) (rs : List (List ℕ)) : Type 0 where
-  rounds-are : rounds (happened (there 0 second ps opening) cs) ≡ rs
+-- What the history of a list of profiles comes to: the rounds, the lists before it, and what is read before it.
+record Computed (ps : Profiles) (fast slow : List ℕ) (rs : List (List ℕ)) : Type 0 where
+  rounds-are : rounds (happened (there 0 second ps opening) calls) ≡ rs
   fast-is : entries (there 0 second ps opening .poller .fast) ≡ fast
   slow-is : entries (there 0 second ps opening .poller .slow) ≡ slow
   settings-are : read 0 second ps opening .settings ≡ second
   closed : openOver false (sofar 0 second ps opening) ≡ false
   up : read 0 second ps opening .up ≡ true
-  all-up : allUp (read 0 second ps opening) (happened (there 0 second ps opening) cs) ≡ true
+  all-up : allUp (read 0 second ps opening) (happened (there 0 second ps opening) calls) ≡ true
 
-computed : Computed two calls (12 ∷ []) (5 ∷ []) ((12 ∷ []) ∷ (12 ∷ 5 ∷ []) ∷ []) × Computed overlays slow-calls [] (5 ∷ 15 ∷ []) ((5 ∷ []) ∷ (15 ∷ []) ∷ [])
+computed : Computed two (12 ∷ []) (5 ∷ []) ((12 ∷ []) ∷ (12 ∷ 5 ∷ []) ∷ []) × Computed overlays [] (5 ∷ 15 ∷ []) ((5 ∷ []) ∷ (15 ∷ []) ∷ [])
 unfolding roundsIn openOver seenOver startOf startRefusal started startManager registerOf noTable through news entryAfter swept tidings countsOf priorityOf wishedBy wishOf joinedWish inForce isFast speed registeredOf toldOf emptyOf sendAll messages pushOut pushAllOf pushOf emptyLine unknownMode unknownOf many badProfiles run step refusalOf rowsOf linkRows roundRows doneOf linkBy roundBy overRange withinOf sumOf countedOf lengthsOf totalOf firstOf someOf takeOf appliedOf setOf removeOf fitOf swapOut appendOf place entries sizeOf wrap emptyList connectOf linkUp startLink noRanges startPoller happened nextPid beginOf nextOf firstQuery slowOf slowDue issueOf endOf moreOf padded keepOf teachOf teachAll learnOf linkAfter roundAfter resultOf pidsOf
 computed = (
   record { rounds-are = refl; fast-is = refl; slow-is = refl; settings-are = refl; closed = refl; up = refl; all-up = refl },
   record { rounds-are = refl; fast-is = refl; slow-is = refl; settings-are = refl; closed = refl; up = refl; all-up = refl },
 )
 
-lasts : (ps : Profiles) (xs : List (ℕ × RoundCall)) {fast slow : List ℕ} {rs : List (List ℕ)} → Computed ps (map turn xs) fast slow rs → LastingSince 0 second ps opening (map turn xs)
-lasts ps xs c = record {
+lasts : (ps : Profiles) {fast slow : List ℕ} {rs : List (List ℕ)} → Computed ps fast slow rs → LastingSince 0 second ps opening calls
+lasts ps c = record {
   closed = c .closed;
   up = c .up;
   fits = rw (c .settings-are) (omega arith);
-  steady = all-quiet xs (read 0 second ps opening) (there 0 second ps opening) (rw (c .settings-are)) (c .all-up);
+  steady = all-quiet turns (read 0 second ps opening) (there 0 second ps opening) (rw (c .settings-are)) (c .all-up);
 }
 
 -- The hypotheses of the claim ..
 pub since-start : LastingSince 0 second two opening calls
-since-start = lasts two turns (computed .0)
+since-start = lasts two (computed .0)
 
-pub slow-since-start : LastingSince 0 second overlays opening slow-calls
-slow-since-start = lasts overlays slow-turns (computed .1)
+pub slow-since-start : LastingSince 0 second overlays opening calls
+slow-since-start = lasts overlays (computed .1)
 
 -- .. and within it: Ratio mode, a PID in each list, and as many rounds as both stretches need; ..
 pub stretches : let box = there 0 second two opening in
@@ -198,6 +181,6 @@ pub slow-stretches : let box = there 0 second overlays opening in
     × (length (entries (box .poller .fast)) ≡ 0)
     × (0 < times 5 (entries (box .poller .slow)))
     × (0 < times 15 (entries (box .poller .slow)))
-    × (0 + length (entries (box .poller .slow)) ≤ length (rounds (happened box slow-calls)))
+    × (0 + length (entries (box .poller .slow)) ≤ length (rounds (happened box calls)))
 unfolding times
 slow-stretches = let c = computed .1 in rw (c .rounds-are, c .fast-is, c .slow-is, c .settings-are) ((λ e. omega arith), refl, omega arith, omega arith, omega arith)

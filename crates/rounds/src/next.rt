@@ -90,8 +90,7 @@ fn slow(mut p: Poller, time: u64) -> Stepped
     ensures { λ r. ⌜ r ≡ slowOf p time ⌝ }
 {
     let settings = p.settings;
-    let round = p.round;
-    if !slow_due(settings, round.nofast, time, p.clock, p.requests) {
+    if !slow_due(settings, p.round.nofast, time, p.clock, p.requests) {
         return end(p);
     }
     let list = p.slow;

@@ -12,8 +12,8 @@ end-requires : tie.Need-end-requires
 end-requires c κs = search needs
 
 returns : tie.Need-returns
-returns c = let p = c .before .before .before .before .before .args .p in
-    rw (c .end .ensures, slow-not p (c .before .before .before .before .before .args .time) (sym (c .before .before .slow-due .ensures) ∙ not-true (c .before .before .slow-due .result) (c .before .if1 .taken)))
+returns c = let p = c .before .before .before .before .args .p in
+    rw (c .end .ensures, slow-not p (c .before .before .before .before .args .time) (sym (c .before .before .slow-due .ensures) ∙ not-true (c .before .before .slow-due .result) (c .before .if1 .taken)))
 
 next-requires : tie.Need-next-requires
 next-requires c κs = search needs
@@ -28,7 +28,7 @@ issue-requires : tie.Need-issue-requires
 issue-requires c κs = search needs
 
 returns-2 : tie.Need-returns-2
-returns-2 c = let a = c .before .before .before .before .before .before .before .before .before .before .before .before .args in
+returns-2 c = let a = c .before .before .before .before .before .before .before .before .before .before .before .args in
     let n = c .before .before .before .before .before .before .next .ensures in
     let f = sym (rw n at (c .before .before .before .sendable .ensures)) ∙ c .before .before .if2 .taken in
     rw (c .issue .ensures, c .before .single .ensures, n, slow-sent (a .p) (a .time) (sym (c .before .before .before .before .before .before .before .before .before .slow-due .ensures) ∙ not-false (c .before .before .before .before .before .before .before .before .before .slow-due .result) (c .before .before .before .before .before .before .before .before .if1 .left)) f)
@@ -37,7 +37,7 @@ end-requires-2 : tie.Need-end-requires-2
 end-requires-2 c κs = search needs
 
 returns-3 : tie.Need-returns-3
-returns-3 c = let a = c .before .before .before .before .before .before .before .before .before .before .before .args in
+returns-3 c = let a = c .before .before .before .before .before .before .before .before .before .before .args in
     let n = c .before .before .before .before .before .next .ensures in
     let f = sym (rw n at (c .before .before .sendable .ensures)) ∙ c .before .if2 .left in
     rw (c .end2 .ensures, n, slow-unsent (a .p) (a .time) (sym (c .before .before .before .before .before .before .before .before .slow-due .ensures) ∙ not-false (c .before .before .before .before .before .before .before .before .slow-due .result) (c .before .before .before .before .before .before .before .if1 .left)) f)
