@@ -1,12 +1,12 @@
 -- A list whose first n are changed one by one, as a loop does it; and whether some of the first n pass a test.
 use mathlib.Core.Bool.{Bool, true, false, _||_}
 use mathlib.Core.List.{List, [], _∷_, map}
-use mathlib.Core.Path.{_≡_, refl, ap}
+use mathlib.Core.Path.{_≡_, refl, ap, sym, _∙_}
 use Prim.Native.Nat.{ℕ, zero, suc, _+_, _<_, _≤_}
 use native.Mathlib.Omega.{arith}
 use native.Mathlib.Numerals.{add-one}
-use lib.ListN.{length, getD, set, drop, drop-of-length-le}
-use lib.Seq.{drop-cons}
+use lib.ListN.{length, getD, set, take, drop, replicate, drop-of-length-le}
+use lib.Seq.{drop-cons, take-suc, take-suc-set, take-all}
 
 unfoldable pub eachOf : {A : Type 0} → ℕ → (A → A) → List A → List A
 eachOf zero f xs = xs
@@ -44,6 +44,24 @@ module _ {A : Type 0} (f : A → A) where
   each-all zero (x ∷ xs) h = let z : ⊥ = omega arith in absurd z
   each-all (suc n) [] h = refl
   each-all (suc n) (x ∷ xs) h = ap (λ (t : List A). f x ∷ t) (each-all n xs (omega arith))
+
+-- A change at one place, before or after each is read as something else.
+pub map-set : {A B : Type 0} (f : A → B) (xs : List A) (i : ℕ) (x : A) → map f (set xs i x) ≡ set (map f xs) i (f x)
+map-set f [] i x = refl
+map-set f (y ∷ xs) zero x = refl
+map-set {B = B} f (y ∷ xs) (suc i) x = ap (λ (t : List B). f y ∷ t) (map-set f xs i x)
+
+pub map-replicate : {A B : Type 0} (f : A → B) (n : ℕ) (x : A) → map f (replicate n x) ≡ replicate n (f x)
+map-replicate f zero x = refl
+map-replicate {B = B} f (suc n) x = ap (λ (t : List B). f x ∷ t) (map-replicate f n x)
+
+-- A list that takes another's entries one by one, as a loop does it: the first i are the other's.
+module _ {A : Type 0} (xs ys : List A) (i : ℕ) where
+  pub filled-more : (x d : A) → i < length xs → i < length ys → x ≡ getD ys i d → take i xs ≡ take i ys → take (i + 1) (set xs i x) ≡ take (i + 1) ys
+  filled-more x d h k e f = rw (add-one i, take-suc-set xs i x h, take-suc ys i d k, e, f)
+
+  pub filled-all : length xs ≤ i → length ys ≤ i → take i xs ≡ take i ys → xs ≡ ys
+  filled-all h k f = sym (take-all i xs h) ∙ f ∙ take-all i ys k
 
 -- A search: whether some are left that pass, from the place i on.
 module _ {A : Type 0} (g : A → Bool) (xs : List A) (i : ℕ) (d : A) where

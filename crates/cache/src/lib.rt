@@ -1,13 +1,11 @@
 // Asking the client cache (the Rust's answer_obd, and get_cached_value up to where it blocks).
+pub mod asking;
+
 use command::Command;
 use desk::Desk;
 use reply::RangeReply;
-use reply::Reply;
 ghost use mathlib.Core.Path.{_≡_};
-ghost use mathlib.Core.List.{[]};
-ghost use lib.ListN.{length};
-ghost use Rattle.cache.specs.declared.Step.the-variants.{ToCache};
-ghost use Rattle.cache.specs.Rules.{rangeOf, rangeStep, stepOf, refusedAsk, toldOf, otherOf, otherArea, askOf, askArea, askRefusal};
+ghost use Rattle.cache.specs.Rules.{rangeOf, rangeStep, stepOf};
 
 // The range queries, 0100 to 01E0.
 const RANGES: usize = 8;
@@ -87,109 +85,5 @@ fn first_step(connected: bool, ranges: [RangeReply; RANGES], cmd: &[u8]) -> Step
         }
         Command::Pid(pid) => Step::ToCache(pid),
         Command::Unknown => Step::Unclear,
-    }
-}
-
-// The answer of a refused ask is a place holder that nobody reads.
-fn refuse(desk: Desk, number: u8) -> Asked
-    ensures { λ r. ⌜ r ≡ refusedAsk number desk ⌝ }
-{
-    Asked {
-        desk: desk,
-        refusal: number,
-        answer: Answer::Unable,
-        lines: 0,
-        lengths: [0u8; reply::MAX_LINES],
-    }
-}
-
-fn tell(desk: Desk, answer: Answer, out: Reply) -> Asked
-    ensures { λ r. ⌜ r ≡ toldOf desk answer out ⌝ }
-{
-    let lengths = out.lengths;
-    Asked {
-        desk: desk,
-        refusal: 0,
-        answer: answer,
-        lines: out.lines,
-        lengths: lengths,
-    }
-}
-
-// An ask that changes nothing: its answer is known, with the reply that goes with it.
-fn ask_other(desk: Desk, number: u32, answer: Answer, out: Reply, area: &mut [u8]) -> Asked
-    ensures { λ r. ⌜ r ≡ otherOf desk number answer out (length (now (area .entry))) ⌝ }
-    ensures { λ r. ⌜ now (area .exit) ≡ otherArea desk number out (now (area .entry)) ⌝ }
-{
-    let clients = desk.clients;
-    let at = clients::seat(clients, number);
-    if at >= clients::PLACES {
-        return refuse(desk, 8);
-    }
-    if area.len() < reply::size(out) {
-        return refuse(desk, 14);
-    }
-    reply::copy(out, area);
-    tell(desk, answer, out)
-}
-
-// An ask for a PID: a fresh reply is taken, else the client waits.
-fn ask_cache(mut desk: Desk, time: u64, number: u32, pid: u8, area: &mut [u8]) -> Asked
-    ensures { λ r. ⌜ r ≡ askOf desk time number [] (ToCache pid) (length (now (area .entry))) ⌝ }
-    ensures { λ r. ⌜ now (area .exit) ≡ askArea desk number [] (ToCache pid) (now (area .entry)) ⌝ }
-{
-    let clients = desk.clients;
-    let at = clients::seat(clients, number);
-    if at >= clients::PLACES {
-        return refuse(desk, 8);
-    }
-    let client = desk.clients[at];
-    let wait = client.wait;
-    if wait.waiting {
-        return refuse(desk, 9);
-    }
-    let i = pid as usize;
-    if client.fresh[i] {
-        let out = desk.store[i];
-        if area.len() < reply::size(out) {
-            return refuse(desk, 14);
-        }
-        reply::copy(out, area);
-        let taken = clients::take(client, pid);
-        desk.clients[at] = taken;
-        return tell(desk, Answer::Reading(pid), out);
-    }
-    let waiting = clients::begin_wait(client, pid, time);
-    desk.clients[at] = waiting;
-    let nothing = reply::empty();
-    tell(desk, Answer::Waiting(pid), nothing)
-}
-
-// A client's command, at a time, with the connection's state: whether the ranges are ready, and their replies.
-pub fn ask(
-    desk: Desk,
-    time: u64,
-    number: u32,
-    cmd: &[u8],
-    area: &mut [u8],
-    connected: bool,
-    ranges: [RangeReply; RANGES],
-) -> Asked
-    ensures { λ r. ⌜ r ≡ askOf desk time number ranges (stepOf connected ranges (now (cmd .entry))) (length (now (area .entry))) ⌝ }
-    ensures { λ r. ⌜ now (area .exit) ≡ askArea desk number ranges (stepOf connected ranges (now (cmd .entry))) (now (area .entry)) ⌝ }
-    ensures { λ r. ⌜ r .refusal ≡ askRefusal desk number ranges (stepOf connected ranges (now (cmd .entry))) (length (now (area .entry))) ⌝ }
-{
-    let step = first_step(connected, ranges, cmd);
-    let nothing = reply::empty();
-    match step {
-        Step::Disconnected => ask_other(desk, number, Answer::Unable, nothing, area),
-        Step::Empty => ask_other(desk, number, Answer::NoData, nothing, area),
-        Step::Unclear => ask_other(desk, number, Answer::Unknown, nothing, area),
-        Step::Stored(n) => {
-            let found = range(ranges, n);
-            let out = found.reply;
-            ask_other(desk, number, Answer::Range, out, area)
-        }
-        Step::ToCache(pid) => ask_cache(desk, time, number, pid, area),
     }
 }

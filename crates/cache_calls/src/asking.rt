@@ -1,36 +1,53 @@
-use obd2::Answered;
+use clients::PLACES;
 use obd2::Said;
-use obd2::State;
-use obd2::answers;
+use obd2::core::Core;
+use obd2::core::Told;
+use obd2::telling;
+use reply::rows::ROW;
 ghost use mathlib.Core.Path.{_≡_};
+ghost use lib.ListN.{length};
+ghost use Rattle.clients.specs.Rules.{places};
 ghost use Rattle.obd2.specs.Call.{ask};
+ghost use Rattle.obd2.specs.Core.{Lent, withDesk, boxOf, answeredOf};
 ghost use Rattle.obd2.specs.History.{inTime, lentBy};
 ghost use Rattle.obd2.specs.Refusals.{rowRefusal};
 
 // A client's command, answered by what the connection has stored or from the cache. The lent area gets the reply's
 // lines, if the answer hands a reply out.
-pub fn ask(mut state: State, time: u64, number: u32, cmd: &[u8], area: &mut [u8]) -> Answered
-    ensures { λ r. ⌜ r ≡ inTime state (ask time number (now (cmd .entry)) (now (area .entry))) ⌝ }
-    ensures { λ r. ⌜ now (area .exit) ≡ lentBy (rowRefusal state (ask time number (now (cmd .entry)) (now (area .entry)))) state (ask time number (now (cmd .entry)) (now (area .entry))) ⌝ }
+pub fn ask(
+    replies: &[[u8; ROW]; 256],
+    marks: &mut [[bool; 256]; PLACES],
+    mut core: Core,
+    time: u64,
+    number: u32,
+    cmd: &[u8],
+    area: &mut [u8],
+) -> Told
+    requires { ⌜ length (now marks) ≡ places ⌝ }
+    ensures { λ _. ⌜ length (now (marks .exit)) ≡ places ⌝ }
+    ensures { λ r. ⌜ ((x : Lent) → answeredOf (withDesk x (now (replies .entry)) (now (marks .exit))) r ≡ inTime (boxOf (withDesk x (now (replies .entry)) (now (marks .entry))) core) (ask time number (now (cmd .entry)) (now (area .entry)))) ⌝ }
+    ensures { λ r. ⌜ ((x : Lent) → let s = boxOf (withDesk x (now (replies .entry)) (now (marks .entry))) core in let c = ask time number (now (cmd .entry)) (now (area .entry)) in now (area .exit) ≡ lentBy (rowRefusal s c) s c) ⌝ }
 {
-    let desk = state.desk;
-    let ranges = state.poller.link.ranges;
-    let asked = cache::ask(
+    let desk = core.desk;
+    let ranges = core.poller.link.ranges;
+    let asked = cache::asking::ask(
+        replies,
+        marks,
         desk,
         time,
         number,
         cmd,
         area,
-        state.poller.link.connected,
+        core.poller.link.connected,
         ranges,
     );
+    let after = asked.core;
+    core.desk = after;
     if asked.refusal != 0 {
-        return answers::refuse(state, asked.refusal);
+        return telling::refuse(core, asked.refusal);
     }
-    let after = asked.desk;
-    state.desk = after;
     let lengths = asked.lengths;
-    let details = answers::lines_of(asked.lines, lengths);
+    let notes = telling::lines_of(asked.lines, lengths);
     let answer = asked.answer;
-    answers::accept(state, time, Said::Asked(answer), details)
+    telling::accept(core, time, Said::Asked(answer), notes)
 }

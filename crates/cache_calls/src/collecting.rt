@@ -1,30 +1,44 @@
-use obd2::Answered;
+use clients::PLACES;
 use obd2::Said;
-use obd2::State;
-use obd2::answers;
+use obd2::core::Core;
+use obd2::core::Told;
+use obd2::telling;
+use reply::rows::ROW;
 ghost use mathlib.Core.Path.{_≡_};
+ghost use lib.ListN.{length};
+ghost use Rattle.clients.specs.Rules.{places};
 ghost use Rattle.obd2.specs.Call.{collect};
+ghost use Rattle.obd2.specs.Core.{Lent, withDesk, boxOf, answeredOf};
 ghost use Rattle.obd2.specs.History.{inTime, lentBy};
 ghost use Rattle.obd2.specs.Refusals.{rowRefusal};
 
 // The reply that the client waits for, into the lent area, and how long it waited.
-pub fn collect(mut state: State, time: u64, number: u32, area: &mut [u8]) -> Answered
-    ensures { λ r. ⌜ r ≡ inTime state (collect time number (now (area .entry))) ⌝ }
-    ensures { λ r. ⌜ now (area .exit) ≡ lentBy (rowRefusal state (collect time number (now (area .entry)))) state (collect time number (now (area .entry))) ⌝ }
+pub fn collect(
+    replies: &[[u8; ROW]; 256],
+    marks: &mut [[bool; 256]; PLACES],
+    mut core: Core,
+    time: u64,
+    number: u32,
+    area: &mut [u8],
+) -> Told
+    requires { ⌜ length (now marks) ≡ places ⌝ }
+    ensures { λ _. ⌜ length (now (marks .exit)) ≡ places ⌝ }
+    ensures { λ r. ⌜ ((x : Lent) → answeredOf (withDesk x (now (replies .entry)) (now (marks .exit))) r ≡ inTime (boxOf (withDesk x (now (replies .entry)) (now (marks .entry))) core) (collect time number (now (area .entry)))) ⌝ }
+    ensures { λ r. ⌜ ((x : Lent) → let s = boxOf (withDesk x (now (replies .entry)) (now (marks .entry))) core in let c = collect time number (now (area .entry)) in now (area .exit) ≡ lentBy (rowRefusal s c) s c) ⌝ }
 {
-    let desk = state.desk;
-    let collected = waits::collect(desk, time, number, area);
+    let desk = core.desk;
+    let collected = waits::ending::collect(replies, marks, desk, time, number, area);
+    let after = collected.core;
+    core.desk = after;
     if collected.refusal != 0 {
-        return answers::refuse(state, collected.refusal);
+        return telling::refuse(core, collected.refusal);
     }
-    let after = collected.desk;
-    state.desk = after;
     let lengths = collected.lengths;
-    let details = answers::lines_of(collected.lines, lengths);
-    answers::accept(
-        state,
+    let notes = telling::lines_of(collected.lines, lengths);
+    telling::accept(
+        core,
         time,
         Said::Collected(collected.pid, collected.wait),
-        details,
+        notes,
     )
 }

@@ -1,22 +1,23 @@
-use obd2::Answered;
 use obd2::Said;
-use obd2::State;
-use obd2::answers;
+use obd2::core::Core;
+use obd2::core::Told;
+use obd2::telling;
 ghost use mathlib.Core.Path.{_≡_};
 ghost use Rattle.obd2.specs.Call.{giveUp};
+ghost use Rattle.obd2.specs.Core.{Lent, boxOf, answeredOf};
 ghost use Rattle.obd2.specs.History.{inTime};
 
 // The client waits no longer, and is answered NO DATA.
-pub fn give_up(mut state: State, time: u64, number: u32) -> Answered
-    ensures { λ r. ⌜ r ≡ inTime state (giveUp time number) ⌝ }
+pub fn give_up(mut core: Core, time: u64, number: u32) -> Told
+    ensures { λ r. ⌜ ((x : Lent) → answeredOf x r ≡ inTime (boxOf x core) (giveUp time number)) ⌝ }
 {
-    let desk = state.desk;
-    let ended = waits::give_up(desk, number);
+    let desk = core.desk;
+    let ended = waits::ending::give_up(desk, number);
+    let after = ended.core;
+    core.desk = after;
     if ended.refusal != 0 {
-        return answers::refuse(state, ended.refusal);
+        return telling::refuse(core, ended.refusal);
     }
-    let after = ended.desk;
-    state.desk = after;
-    let details = answers::no_details();
-    answers::accept(state, time, Said::GivenUp, details)
+    let notes = telling::no_notes();
+    telling::accept(core, time, Said::GivenUp, notes)
 }

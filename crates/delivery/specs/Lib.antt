@@ -1,4 +1,6 @@
 pub mod Rules
 pub mod Cases
-pub mod Beside
 pub mod Laws
+pub mod Turns
+pub mod Evaluation
+pub mod Storing

@@ -25,6 +25,18 @@ unfolding startDesk
 start-is x r e f = rw (e, f)
 
 module _ (d : Desk) where
+  pub refusal-numbers : leb mostNumbers (d .given) ≡ true → registerRefusal d ≡ 6
+  unfolding registerRefusal firstOf
+  refusal-numbers e = rw e
+
+  pub refusal-full : leb mostNumbers (d .given) ≡ false → full d ≡ true → registerRefusal d ≡ 7
+  unfolding registerRefusal firstOf
+  refusal-full e f = rw (e, f)
+
+  pub refusal-none : leb mostNumbers (d .given) ≡ false → full d ≡ false → registerRefusal d ≡ 0
+  unfolding registerRefusal firstOf
+  refusal-none e f = rw (e, f)
+
   pub register-numbers : leb mostNumbers (d .given) ≡ true → registerOf d ≡ notRegistered 6 d
   unfolding registerOf registerRefusal firstOf
   register-numbers e = rw e
@@ -62,7 +74,7 @@ module _ (d : Desk) (c i : ℕ) (e : i ≡ seatOf (d .clients) c) where
   unfolding registered
   seat-missing h = seat-none (d .clients) c (omega arith)
 
-  at-place : i < places → i ≡ placeOf (d .clients) c
+  pub at-place : i < places → i ≡ placeOf (d .clients) c
   at-place h = e ∙ seat-place (d .clients) c (omega arith)
 
   pub seat-client : i < places → getD (d .clients) i nobody ≡ clientOf d c

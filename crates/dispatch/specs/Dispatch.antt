@@ -4,9 +4,12 @@ use mathlib.Core.List.{List, []}
 use mathlib.Core.Path.{_≡_}
 use Prim.Native.Nat.{ℕ}
 use lib.Dec.{eqb}
+use lib.ListN.{length}
 use Rattle.base.specs.Choice.{pick}
 use Rattle.obd2.specs.Answers.{numberIn, valuesIn, valuesOf}
+use Rattle.clients.specs.Rules.{places}
 use Rattle.obd2.specs.Call as history
+use Rattle.obd2.specs.Core.{Lent}
 use Rattle.obd2.specs.Done.{doneOf}
 use Rattle.obd2.specs.History.{lentBy}
 use Rattle.obd2.specs.Refusals.{refusalOf}
@@ -15,6 +18,18 @@ use Rattle.obd2.specs.declared.State.{State}
 use Rattle.obd2.specs.declared.call.Call.{Call}
 use Rattle.obd2.specs.declared.call.Call.the-variants.{Register, Leave, Ask, Collect, GiveUp, Response, ProfilePidsChanged, Waiting, Consumed, Tick, SetSettings, TakeControl, Connect, ConnectFailed, ReconnectCheck, Begin, Next, Result}
 use Rattle.obd2.specs.declared.call.Brought.{Brought}
+use Rattle.obd2.specs.declared.core.Told.{Told}
+
+-- Lent arrays as long as their types say.
+pub record Whole (x : Lent) : Type 0 where
+  pub marks : length (x .marks) ≡ places
+  pub table : length (x .table) ≡ 256
+  pub pids : length (x .pids) ≡ 256
+  pub rates : length (x .rates) ≡ 256
+
+-- A call without maintenance leaves the report's arrays, x before it and y after it, as they were.
+abbrev pub Quiet : Lent → Lent → Told → Type 0
+Quiet x y r = r .notes .summary .ran ≡ false → (y .pids ≡ x .pids) × (y .rates ≡ x .rates)
 
 -- The time, the numbers, what is brought, a command's bytes and the lent area.
 unfoldable pub callOf : ℕ → Call → Brought → List ℕ → List ℕ → history.Call

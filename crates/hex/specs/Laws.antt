@@ -8,30 +8,36 @@ use native.Mathlib.Numerals.{add-one}
 use lib.Dec.{eqb, ltb}
 use lib.ListN.{length, getD, take, drop, set, length-drop, length-set, drop-of-length-le}
 use lib.Seq.{drop-cons, take-suc, take-all, length-take-le}
-use borrow.Author.Tests.{lt-ltb, le-ltb, ltb-true, eq-eqb, ne-eqb}
+use borrow.Author.Tests.{lt-ltb, ltb-true, eq-eqb, ne-eqb}
 use Rattle.ascii.specs.Chars.{hexValue, hexDigit}
-use Rattle.base.specs.Choice.{false-true}
+use Rattle.base.specs.Choice.{cases, false-true}
 use Rattle.base.specs.Write.{over, over-none, over-one, over-length, over-over, over-cons}
 use Rattle.hex.specs.declared.Bytes.the-variants.{Bad}
 use Rattle.hex.specs.Pairs.{isHex, pairOf, hexes, isPairs, pairs, bytesOf, readOf, plainOf, copyOf, commandOf, commandBytes, hexText}
 
-pub digit-within : (b : ℕ) → hexValue b ≤ 15 → isHex b ≡ true
-unfolding isHex
-digit-within b h = lt-ltb (hexValue b) 16 (omega arith)
+-- The highest of the values so far, and of one more: all are digits if it is one.
+module _ (h v : ℕ) (x : Bool) where
+  pub higher-digit : h < v → ltb h 16 && (ltb v 16 && x) ≡ (ltb v 16 && x)
+  higher-digit k =
+      cases _ (ltb v 16)
+      (λ e. let n = ltb-true v 16 e in rw (e, lt-ltb h 16 (omega arith)))
+      (λ e. rw e (cases _ (ltb h 16) (λ f. rw f) (λ f. rw f)))
 
-pub digit-past : (b : ℕ) → 15 < hexValue b → isHex b ≡ false
-unfolding isHex
-digit-past b h = le-ltb (hexValue b) 16 (omega arith)
+  pub same-digit : v ≤ h → ltb h 16 && (ltb v 16 && x) ≡ (ltb h 16 && x)
+  same-digit k =
+      cases _ (ltb h 16)
+      (λ e. let n = ltb-true h 16 e in rw (e, lt-ltb v 16 (omega arith)))
+      (λ e. rw e)
+
+pub and-true : (b : Bool) → (b && true) ≡ b
+and-true true = refl
+and-true false = refl
 
 -- A look at the digits from the front: what is left of it at place i.
 module _ (s : List ℕ) (i : ℕ) where
-  pub hexes-other : i < length s → isHex (getD s i 0) ≡ false → hexes (drop i s) ≡ false
-  unfolding hexes
-  hexes-other h e = rw (drop-cons s i 0 h, e)
-
-  pub hexes-next : i < length s → isHex (getD s i 0) ≡ true → hexes (drop i s) ≡ hexes (drop (i + 1) s)
-  unfolding hexes
-  hexes-next h e = rw (drop-cons s i 0 h, e, add-one i)
+  pub hexes-next : i < length s → hexes (drop i s) ≡ (ltb (hexValue (getD s i 0)) 16 && hexes (drop (i + 1) s))
+  unfolding hexes isHex
+  hexes-next h = rw (drop-cons s i 0 h, add-one i)
 
   pub hexes-end : length s ≤ i → hexes (drop i s) ≡ true
   unfolding hexes
@@ -87,7 +93,7 @@ unfolding hexText
 text-length [] = omega arith
 text-length (b ∷ s) = omega (arith, text-length s)
 
-text-append : (xs ys : List ℕ) → hexText (xs ++ ys) ≡ hexText xs ++ hexText ys
+pub text-append : (xs ys : List ℕ) → hexText (xs ++ ys) ≡ hexText xs ++ hexText ys
 unfolding hexText
 text-append [] ys = refl
 text-append (x ∷ xs) ys = rw (text-append xs ys)

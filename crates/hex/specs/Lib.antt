@@ -1,5 +1,4 @@
 pub mod Pairs
 pub mod Laws
-pub mod Within
-pub mod Kept
 pub mod Room
+pub mod Turn

@@ -12,6 +12,8 @@ use Rattle.hex.specs.declared.Byte.{Byte}
 use Rattle.hex.specs.declared.Byte.the-variants as byte
 use Rattle.hex.specs.declared.Bytes.{Bytes}
 use Rattle.hex.specs.declared.Bytes.the-variants.{Count, Bad, Short}
+use Rattle.hex.specs.declared.Turned.{Turned}
+use Rattle.hex.specs.declared.Turned.the-variants as turned
 
 unfoldable pub isHex : ℕ → Bool
 isHex b = ltb (hexValue b) 16
@@ -59,6 +61,21 @@ commandOf room (b ∷ s) = pick (eqb b 39) (plainOf room s) (pick (eqb b 120) (b
 unfoldable pub commandBytes : List ℕ → List ℕ → List ℕ
 commandBytes d [] = d
 commandBytes d (b ∷ s) = pick (eqb b 39) (copyOf d s) (pick (eqb b 120) (readOf d s) d)
+
+-- The same in the text's own place, which has room always: of what is bad there are no bytes, and the text is as it was.
+unfoldable pub turnOf : List ℕ → Turned
+turnOf s = pick (isPairs s) (turned.Count (length s / 2)) turned.Bad
+
+unfoldable pub turnedBytes : List ℕ → List ℕ
+turnedBytes s = pick (isPairs s) (pairs s) []
+
+unfoldable pub commandTurn : List ℕ → Turned
+commandTurn [] = turned.Bad
+commandTurn (b ∷ s) = pick (eqb b 39) (turned.Count (length s)) (pick (eqb b 120) (turnOf s) turned.Bad)
+
+unfoldable pub commandText : List ℕ → List ℕ
+commandText [] = []
+commandText (b ∷ s) = pick (eqb b 39) s (pick (eqb b 120) (turnedBytes s) [])
 
 -- The text of bytes, "output is upper case".
 unfoldable pub hexText : List ℕ → List ℕ

@@ -5,13 +5,21 @@ use Prim.Native.Nat.{ℕ, _+_, _≤_}
 use native.Mathlib.Omega.{arith}
 use lib.ListN.{length, length-append}
 use Rattle.base.specs.Write.{over}
+use Rattle.obd2.specs.Core.{Lent, detailsOf}
 use Rattle.obd2.specs.declared.Answer.{Answer}
 use Rattle.obd2.specs.declared.Details.{Details}
+use Rattle.obd2.specs.declared.core.Notes.{Notes}
 use Rattle.reply.specs.declared.Response.{Response}
 use Rattle.writing.specs.Fill.{fillOf, fillEnd, fill-fits, end-fits}
 use Rattle.history_answer.specs.Texts.{answerText}
-use Rattle.history_report.specs.Short.{report-short}
+use Rattle.history_report.specs.Short.{report-short, listed-most}
 use Rattle.history_said.specs.Short.{Sound, said-short}
+
+-- What is lent and what goes by value hold no more than that.
+pub lent-sound : (x : Lent) (n : Notes) → length (x .pids) ≡ 256 → length (x .rates) ≡ 256 → length (n .lengths) ≤ 8 → length (n .query .pids) ≤ 6
+    → Sound (detailsOf x n)
+lent-sound x n e f g h =
+    record { lengths-are = g; pids-are = h; rates-are = listed-most (x .pids) (x .rates) (n .summary) e f }
 
 module _ (d : Details) (v : Response) (area : List ℕ) (s : Sound d) where
   pub answer-short : (a : Answer) → length (answerText a d v area) ≤ 4096

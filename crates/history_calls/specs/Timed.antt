@@ -1,31 +1,31 @@
--- A line with a time behind its word: what the word's row has behind it (history-format.md, "Calls of the box").
-use mathlib.Core.Bool.{Bool}
+-- A line with a time behind its word: what the word's row has behind it (history-format.md, "Calls of the box"), as far
+-- as that is told before a list is read.
 use mathlib.Core.List.{List}
 use Prim.Native.Nat.{ℕ}
-use Rattle.obd2.specs.declared.call.Brought.{Brought}
 use Rattle.history_words.specs.declared.Word.{Word}
 use Rattle.history_words.specs.declared.Word.the-variants as word
 use Rattle.history_calls.specs.Plain.{Tokens, aloneOf, leaveOf, giveUpOf, waitingOf, setOf, consumedOf, collectOf, askOf, askBytes}
-use Rattle.history_calls.specs.Bringing.{parsed, bare, startOf, changedOf, answeredOf, connectOf, resultOf}
-use Rattle.history_calls.specs.declared.Parsed.{Parsed}
+use Rattle.history_calls.specs.Bringing.{startLine, connectLine}
+use Rattle.history_calls.specs.declared.Line.{Line}
+use Rattle.history_calls.specs.declared.Line.the-variants as line
 
 -- `room` is the number of the lent bytes.
-module _ (due : Bool) (asked room : ℕ) (b : Brought) (t : ℕ) (ts : Tokens) where
-  unfoldable pub timedOf : Word → Parsed
-  timedOf (word.Bare c) = parsed b (aloneOf t c ts)
-  timedOf word.Outcome = resultOf due asked b t ts
-  timedOf word.Response = answeredOf b t ts
-  timedOf word.Ask = parsed b (askOf room t ts)
-  timedOf word.Collect = parsed b (collectOf t ts)
-  timedOf word.Waiting = parsed b (waitingOf t ts)
-  timedOf word.Consumed = parsed b (consumedOf t ts)
-  timedOf word.Leave = parsed b (leaveOf t ts)
-  timedOf word.GiveUp = parsed b (giveUpOf t ts)
-  timedOf word.Profiles = changedOf b t ts
-  timedOf word.Settings = parsed b (setOf t ts)
-  timedOf word.Connect = connectOf b t ts
-  timedOf word.Start = startOf b t ts
-  timedOf word.Other = bare b
+module _ (room : ℕ) (t : ℕ) (ts : Tokens) where
+  unfoldable pub timedLine : Word → Line
+  timedLine (word.Bare c) = aloneOf t c ts
+  timedLine word.Outcome = line.Result t
+  timedLine word.Response = line.Response t
+  timedLine word.Ask = askOf room t ts
+  timedLine word.Collect = collectOf t ts
+  timedLine word.Waiting = waitingOf t ts
+  timedLine word.Consumed = consumedOf t ts
+  timedLine word.Leave = leaveOf t ts
+  timedLine word.GiveUp = giveUpOf t ts
+  timedLine word.Profiles = line.Profiles t
+  timedLine word.Settings = setOf t ts
+  timedLine word.Connect = connectLine t ts
+  timedLine word.Start = startLine t ts
+  timedLine word.Other = line.Bad
 
 -- What it leaves of the lent bytes: an ask's command stands there.
 unfoldable pub timedBytes : List ℕ → Tokens → Word → List ℕ

@@ -1,132 +1,133 @@
-// The calls that bring a list: what stands behind their time. What is brought takes the place of what the call
-// of that name brought before; a bad line leaves it as it was.
+// The lines that bring a list. `start` and `connect` tell what such a line is; its list is read apart from that, by
+// `session` and `outcome` here and by history_lists, so that a line without one carries none.
 use super::Line;
-use super::Parsed;
 use super::plain;
 use history_items::rest;
 use history_numbers::FlagToken;
 use history_session::KindToken;
 use history_session::StateToken;
 use history_wishes::SettingsToken;
+use link::FeatureSupport;
 use link::Features;
 use link::Session;
-use obd2::call::Brought;
 use obd2::call::Call;
+use rounds::Kind;
 use rounds::Outcome;
 ghost use mathlib.Core.Path.{_≡_};
+ghost use Rattle.link.specs.Rules.{unknownFeatures};
 ghost use Rattle.history_items.specs.Items.{itemsOf};
-ghost use Rattle.history_calls.specs.Bringing.{bare, called, startOf, changedOf, answeredOf, connectOf, connectedOf, isOf, resultOf};
+ghost use Rattle.history_calls.specs.Bringing.{startLine, connectLine, noSession, noOutcome, badSession, badOutcome, isOf, sessionOf, outcomeOf};
 
-fn bad(brought: Brought) -> Parsed
-    ensures { λ r. ⌜ r ≡ bare brought ⌝ }
+// A list with a bad token is bad, and empty then.
+pub struct SessionRead {
+    pub session: Session,
+    pub good: bool,
+}
+
+pub struct OutcomeRead {
+    pub outcome: Outcome,
+    pub good: bool,
+}
+
+// SETTINGS, and the PROFILEs, which are left unread
+pub fn start(time: u64, rest: &[u8]) -> Line
+    ensures { λ r. ⌜ r ≡ startLine time (itemsOf 32 (now (rest .entry))) ⌝ }
 {
-    Parsed {
-        brought,
-        line: Line::Bad,
+    match history_wishes::settings(rest::first(rest)) {
+        SettingsToken::Value(settings) => Line::Start { time, settings },
+        SettingsToken::Bad => Line::Bad,
     }
 }
 
-fn call(brought: Brought, time: u64, call: Call) -> Parsed
-    ensures { λ r. ⌜ r ≡ called brought time call ⌝ }
-{
-    Parsed {
-        brought,
-        line: Line::Call {
-            time,
-            call,
-            cmd: 0,
-            area: 0,
-        },
-    }
-}
-
-// SETTINGS PROFILE..
-pub fn start(mut brought: Brought, time: u64, rest: &[u8]) -> Parsed
-    ensures { λ r. ⌜ r ≡ startOf brought time (itemsOf 32 (now (rest .entry))) ⌝ }
-{
-    let SettingsToken::Value(settings) = history_wishes::settings(rest::first(rest)) else {
-        return bad(brought);
-    };
-    let read = history_lists::profiles(rest::behind(rest));
-    if !read.good {
-        return bad(brought);
-    }
-    let profiles = read.profiles;
-    brought.profiles = profiles;
-    Parsed {
-        brought,
-        line: Line::Start { time, settings },
-    }
-}
-
-// PROFILE..
-pub fn profiles(mut brought: Brought, time: u64, rest: &[u8]) -> Parsed
-    ensures { λ r. ⌜ r ≡ changedOf brought time (itemsOf 32 (now (rest .entry))) ⌝ }
-{
-    let read = history_lists::profiles(rest);
-    if !read.good {
-        return bad(brought);
-    }
-    let profiles = read.profiles;
-    brought.profiles = profiles;
-    call(brought, time, Call::ProfilePidsChanged)
-}
-
-// REPLY..
-pub fn response(mut brought: Brought, time: u64, rest: &[u8]) -> Parsed
-    ensures { λ r. ⌜ r ≡ answeredOf brought time (itemsOf 32 (now (rest .entry))) ⌝ }
-{
-    let read = history_lists::response(rest);
-    if !read.good {
-        return bad(brought);
-    }
-    let response = read.response;
-    brought.response = response;
-    call(brought, time, Call::Response)
-}
-
-// 0, or 1 KNOWN STATE and eight RANGEs
-pub fn connect(brought: Brought, time: u64, rest: &[u8]) -> Parsed
-    ensures { λ r. ⌜ r ≡ connectOf brought time (itemsOf 32 (now (rest .entry))) ⌝ }
+// 0, or 1 and what is known of the dongle, which is left unread
+pub fn connect(time: u64, rest: &[u8]) -> Line
+    ensures { λ r. ⌜ r ≡ connectLine time (itemsOf 32 (now (rest .entry))) ⌝ }
 {
     let FlagToken::Value(made) = history_numbers::flag(rest::first(rest)) else {
-        return bad(brought);
+        return Line::Bad;
     };
-    let behind = rest::behind(rest);
     if made {
-        return connected(brought, time, behind);
+        return Line::Connect { time };
     }
-    Parsed {
-        brought,
-        line: plain::alone(time, Call::ConnectFailed, behind),
+    plain::alone(time, Call::ConnectFailed, rest::behind(rest))
+}
+
+fn unknown() -> Features
+    ensures { λ r. ⌜ r ≡ unknownFeatures ⌝ }
+{
+    Features {
+        multi: FeatureSupport::Unknown,
+    }
+}
+
+// What is known of a dongle that no connection was made to.
+pub fn no_session() -> Session
+    ensures { λ r. ⌜ r ≡ noSession ⌝ }
+{
+    let ranges = link::no_ranges();
+    Session {
+        features: unknown(),
+        ranges,
+        known: [false; 256],
+    }
+}
+
+// The outcome of a query that taught nothing.
+pub fn no_outcome() -> Outcome
+    ensures { λ r. ⌜ r ≡ noOutcome ⌝ }
+{
+    let learnt = history_dongle::nothing_learnt();
+    Outcome {
+        kind: Kind::Replied,
+        features: unknown(),
+        learnt,
+    }
+}
+
+fn bad_session() -> SessionRead
+    ensures { λ r. ⌜ r ≡ badSession ⌝ }
+{
+    SessionRead {
+        session: no_session(),
+        good: false,
+    }
+}
+
+fn bad_outcome() -> OutcomeRead
+    ensures { λ r. ⌜ r ≡ badOutcome ⌝ }
+{
+    OutcomeRead {
+        outcome: no_outcome(),
+        good: false,
     }
 }
 
 // KNOWN STATE and eight RANGEs
-fn connected(mut brought: Brought, time: u64, rest: &[u8]) -> Parsed
-    ensures { λ r. ⌜ r ≡ connectedOf brought time (itemsOf 32 (now (rest .entry))) ⌝ }
+pub fn session(rest: &[u8]) -> SessionRead
+    ensures { λ r. ⌜ r ≡ sessionOf (itemsOf 32 (now (rest .entry))) ⌝ }
 {
     let second = rest::behind(rest);
     let token = history_session::known(rest::first(rest));
     if !token.good {
-        return bad(brought);
+        return bad_session();
     }
     let StateToken::Value(multi) = history_session::state(rest::first(second)) else {
-        return bad(brought);
+        return bad_session();
     };
     let read = history_dongle::ranges(rest::behind(second));
     if !read.good {
-        return bad(brought);
+        return bad_session();
     }
     let known = token.known;
     let ranges = read.ranges;
-    let session = Session {
-        features: Features { multi },
-        ranges,
-        known,
-    };
-    brought.session = session;
-    call(brought, time, Call::Connect)
+    SessionRead {
+        session: Session {
+            features: Features { multi },
+            ranges,
+            known,
+        },
+        good: true,
+    }
 }
 
 // Whether a result teaches of as many PIDs as it has to. Where none is due, the box refuses it.
@@ -139,30 +140,31 @@ fn is_of(due: bool, asked: usize, count: usize) -> bool
     true
 }
 
-// KIND STATE LEARNT..
-pub fn result(mut brought: Brought, time: u64, rest: &[u8], due: bool, asked: usize) -> Parsed
-    ensures { λ r. ⌜ r ≡ resultOf due asked brought time (itemsOf 32 (now (rest .entry))) ⌝ }
+// KIND STATE LEARNT.. `due` says whether a result is due, and `asked` how many PIDs its query has.
+pub fn outcome(rest: &[u8], due: bool, asked: usize) -> OutcomeRead
+    ensures { λ r. ⌜ r ≡ outcomeOf due asked (itemsOf 32 (now (rest .entry))) ⌝ }
 {
     let second = rest::behind(rest);
     let KindToken::Value(kind) = history_session::kind(rest::first(rest)) else {
-        return bad(brought);
+        return bad_outcome();
     };
     let StateToken::Value(multi) = history_session::state(rest::first(second)) else {
-        return bad(brought);
+        return bad_outcome();
     };
     let read = history_dongle::learnt(rest::behind(second));
     if !read.good {
-        return bad(brought);
+        return bad_outcome();
     }
     if !is_of(due, asked, read.count) {
-        return bad(brought);
+        return bad_outcome();
     }
     let learnt = read.learnt;
-    let outcome = Outcome {
-        kind,
-        features: Features { multi },
-        learnt,
-    };
-    brought.outcome = outcome;
-    call(brought, time, Call::Result)
+    OutcomeRead {
+        outcome: Outcome {
+            kind,
+            features: Features { multi },
+            learnt,
+        },
+        good: true,
+    }
 }

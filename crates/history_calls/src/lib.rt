@@ -1,26 +1,20 @@
-// What a line says behind its word and its time: history-format.md, "Calls of the box".
+// What a line says behind its word and its time: history-format.md, "Calls of the box". A line that brings a list is
+// told first; what it brings is read after that, by `bringing`.
 use config::Settings;
 use history_words::Word;
-use obd2::call::Brought;
 use obd2::call::Call;
 ghost use mathlib.Core.Path.{_≡_};
 ghost use lib.ListN.{length};
 ghost use Rattle.history_items.specs.Items.{itemsOf};
-ghost use Rattle.history_calls.specs.Bringing.{parsed};
-ghost use Rattle.history_calls.specs.Timed.{timedOf, timedBytes};
+ghost use Rattle.history_calls.specs.Timed.{timedLine, timedBytes};
 
-// the calls that bring a list, and those that bring none
-mod bringing;
+// the lines that bring a list, and those that bring none
+pub mod bringing;
 mod plain;
 
 pub enum Line {
     // it does not follow the page
     Bad,
-    // its profiles stand in `Brought`
-    Start {
-        time: u64,
-        settings: Settings,
-    },
     Show,
     // the bytes of a command that stand at the start of the lent bytes, and the bytes that the lent area has
     Call {
@@ -29,47 +23,45 @@ pub enum Line {
         cmd: usize,
         area: usize,
     },
-}
-
-pub struct Parsed {
-    pub brought: Brought,
-    pub line: Line,
-}
-
-// A line that brings nothing.
-fn beside(brought: Brought, line: Line) -> Parsed
-    ensures { λ r. ⌜ r ≡ parsed brought line ⌝ }
-{
-    Parsed { brought, line }
+    // Those that bring a list, which is yet to be read and may make the line bad: profiles behind the settings,
+    // profiles, replies, a session behind the 1, and an outcome.
+    Start {
+        time: u64,
+        settings: Settings,
+    },
+    Profiles {
+        time: u64,
+    },
+    Response {
+        time: u64,
+    },
+    Connect {
+        time: u64,
+    },
+    Result {
+        time: u64,
+    },
 }
 
 // What a line says behind its word and its time.
-pub fn timed(
-    brought: Brought,
-    word: Word,
-    time: u64,
-    rest: &[u8],
-    due: bool,
-    asked: usize,
-    bytes: &mut [u8],
-) -> Parsed
-    ensures { λ r. ⌜ r ≡ timedOf due asked (length (now (bytes .entry))) brought time (itemsOf 32 (now (rest .entry))) word ⌝ }
+pub fn timed(word: Word, time: u64, rest: &[u8], bytes: &mut [u8]) -> Line
+    ensures { λ r. ⌜ r ≡ timedLine (length (now (bytes .entry))) time (itemsOf 32 (now (rest .entry))) word ⌝ }
     ensures { λ r. ⌜ now (bytes .exit) ≡ timedBytes (now (bytes .entry)) (itemsOf 32 (now (rest .entry))) word ⌝ }
 {
     match word {
-        Word::Bare(call) => beside(brought, plain::alone(time, call, rest)),
-        Word::Outcome => bringing::result(brought, time, rest, due, asked),
-        Word::Response => bringing::response(brought, time, rest),
-        Word::Ask => beside(brought, plain::ask(time, rest, bytes)),
-        Word::Collect => beside(brought, plain::collect(time, rest)),
-        Word::Waiting => beside(brought, plain::waiting(time, rest)),
-        Word::Consumed => beside(brought, plain::consumed(time, rest)),
-        Word::Leave => beside(brought, plain::leave(time, rest)),
-        Word::GiveUp => beside(brought, plain::give_up(time, rest)),
-        Word::Profiles => bringing::profiles(brought, time, rest),
-        Word::Settings => beside(brought, plain::set_settings(time, rest)),
-        Word::Connect => bringing::connect(brought, time, rest),
-        Word::Start => bringing::start(brought, time, rest),
-        Word::Other => beside(brought, Line::Bad),
+        Word::Bare(call) => plain::alone(time, call, rest),
+        Word::Outcome => Line::Result { time },
+        Word::Response => Line::Response { time },
+        Word::Ask => plain::ask(time, rest, bytes),
+        Word::Collect => plain::collect(time, rest),
+        Word::Waiting => plain::waiting(time, rest),
+        Word::Consumed => plain::consumed(time, rest),
+        Word::Leave => plain::leave(time, rest),
+        Word::GiveUp => plain::give_up(time, rest),
+        Word::Profiles => Line::Profiles { time },
+        Word::Settings => plain::set_settings(time, rest),
+        Word::Connect => bringing::connect(time, rest),
+        Word::Start => bringing::start(time, rest),
+        Word::Other => Line::Bad,
     }
 }

@@ -1,15 +1,18 @@
 -- How long a report is at most.
 use mathlib.Core.List.{List, [], _∷_}
-use mathlib.Core.Path.{_≡_}
-use Prim.Native.Nat.{_*_, _≤_}
+use mathlib.Core.Path.{_≡_, sym, _∙_}
+use Prim.Native.Nat.{ℕ, _*_, _≤_}
 use native.Mathlib.Omega.{arith}
 use lib.Ieee.{Float, binary32, toBits}
 use lib.ListN.{length, length-append, length-take}
 use Rattle.base.specs.Choice.{cases}
 use Rattle.report.specs.Rates.{ratings}
+use Rattle.report.specs.Report.{noReport}
+use Rattle.report.specs.Summary.{reportIn, rated-length, blank-length}
 use Rattle.report.specs.declared.Rated.{Rated}
 use Rattle.report.specs.declared.Report.{Report}
 use Rattle.report.specs.declared.metrics.CacheMetrics.{CacheMetrics}
+use Rattle.report.specs.declared.summary.Summary.{Summary}
 use Rattle.writing.specs.Number.{decimal-short}
 use Rattle.writing_pairs.specs.Short.{pid-length, word-length}
 use Rattle.history_report.specs.Texts.{metricsText, bitsText, rateText, ratesText, reportText}
@@ -41,3 +44,9 @@ report-short r h =
       length-take (r .rates .count) (r .rates .list),
     ))))
     (λ e. rw e (omega arith))
+
+-- Lent numbers list no more than there are.
+pub listed-most : (ps : List ℕ) (rs : List Float) (s : Summary) → length ps ≡ 256 → length rs ≡ 256 → length (reportIn ps rs s .rates .list) ≤ 256
+unfolding reportIn noReport
+listed-most ps rs s e f =
+    cases _ (s .ran) (λ r. rw (r, rated-length ps rs (e ∙ sym f)) (omega arith)) (λ r. rw (r, blank-length) (omega arith))

@@ -1,13 +1,15 @@
 // The report of a maintenance, behind the answer of the call in which it ran.
 use report::Rated;
-use report::Rates;
-use report::Report;
 use report::metrics::CacheMetrics;
+use report::summary::Summary;
 ghost use mathlib.Core.Path.{_≡_};
 ghost use Prim.Native.Nat.{min};
+ghost use lib.ListN.{length};
 ghost use Rattle.report.specs.Rates.{ratings};
+ghost use Rattle.report.specs.Summary.{reportIn};
 ghost use Rattle.writing.specs.Fill.{Wrote};
 ghost use Rattle.history_report.specs.Texts.{metricsText, rateText, ratesText, reportText};
+ghost use Rattle.history_report.specs.Laws.{ratesIn};
 
 // HITS MISSES WAITED
 fn metrics(out: &mut [u8], at: usize, metrics: CacheMetrics) -> usize
@@ -38,32 +40,44 @@ fn counted(count: u16) -> usize
 }
 
 // The rates in the report's order.
-fn rates(out: &mut [u8], at: usize, rates: Rates) -> usize
-    ensures { λ r. ⌜ Wrote (now (out .entry)) at (ratesText (ratings rates)) (now (out .exit)) r ⌝ }
+fn listed(out: &mut [u8], at: usize, pids: &[u8; 256], rates: &[f32; 256], count: u16) -> usize
+    requires { ⌜ length (now pids) ≡ 256 ⌝ }
+    requires { ⌜ length (now rates) ≡ 256 ⌝ }
+    ensures { λ r. ⌜ Wrote (now (out .entry)) at (ratesText (ratings (ratesIn (now (pids .entry)) (now (rates .entry)) count))) (now (out .exit)) r ⌝ }
 {
-    let n = counted(rates.count);
+    let n = counted(count);
     let mut place = at;
     let mut i = 0;
     while i < n {
-        let rated = rates.list[i];
+        let rated = Rated {
+            pid: pids[i],
+            rate: rates[i],
+        };
         place = rate(out, place, rated);
         i += 1;
     }
     place
 }
 
-// The report, each figure behind a space; nothing where no maintenance ran.
-pub fn report(out: &mut [u8], at: usize, report: Report) -> usize
-    ensures { λ r. ⌜ Wrote (now (out .entry)) at (reportText report) (now (out .exit)) r ⌝ }
+// The report that the lent numbers and the summary are, each figure behind a space; nothing where no maintenance ran.
+pub fn report(
+    out: &mut [u8],
+    at: usize,
+    pids: &[u8; 256],
+    rates: &[f32; 256],
+    summary: Summary,
+) -> usize
+    requires { ⌜ length (now pids) ≡ 256 ⌝ }
+    requires { ⌜ length (now rates) ≡ 256 ⌝ }
+    ensures { λ r. ⌜ Wrote (now (out .entry)) at (reportText (reportIn (now (pids .entry)) (now (rates .entry)) summary)) (now (out .exit)) r ⌝ }
 {
-    if !report.ran {
+    if !summary.ran {
         return at;
     }
-    let counts = report.metrics;
-    let listed = report.rates;
+    let counts = summary.metrics;
     let word = writing::put(out, at, b" report ");
     let metered = metrics(out, word, counts);
     let next = writing::byte(out, metered, b' ');
-    let last = writing_pairs::word(out, next, writing_pairs::bits(report.hitrate));
-    rates(out, last, listed)
+    let last = writing_pairs::word(out, next, writing_pairs::bits(summary.hitrate));
+    listed(out, last, pids, rates, summary.count)
 }

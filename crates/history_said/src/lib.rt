@@ -4,8 +4,8 @@ use control::DongleMessage;
 use control_line::Taken;
 use link::Connecting;
 use obd2::Answer;
-use obd2::Details;
 use obd2::Said;
+use obd2::core::Notes;
 use poller::Query;
 use reply::Reply;
 use reply::Response;
@@ -15,6 +15,7 @@ ghost use mathlib.Core.List.{_++_};
 ghost use Prim.Native.Nat.{min};
 ghost use Rattle.control.specs.declared.DongleMessage.the-variants.{SetPidPriority};
 ghost use Rattle.numeral.specs.Decimal.{decimalText};
+ghost use Rattle.obd2.specs.Core.{Lent, detailsOf};
 ghost use Rattle.writing.specs.Fill.{Wrote};
 ghost use Rattle.writing_pairs.specs.Pairs.{pidText};
 ghost use Rattle.history_said.specs.Texts.{heldOf, linesText, readingText, collectedText, rangeText, digitOf, askedText, controlText, takenText, connectingText, checkText, ecuText, queryText, stepText, markText, valueText, valuesFrom, doneText, acceptedText, saidText};
@@ -202,13 +203,13 @@ fn values(
 }
 
 // `ok`, and what a response brought.
-fn done(out: &mut [u8], at: usize, details: Details, delivered: Response) -> usize
-    ensures { λ r. ⌜ Wrote (now (out .entry)) at (doneText details delivered) (now (out .exit)) r ⌝ }
+fn done(out: &mut [u8], at: usize, notes: Notes, delivered: Response) -> usize
+    ensures { λ r. ⌜ ((x : Lent) → Wrote (now (out .entry)) at (doneText (detailsOf x notes) delivered) (now (out .exit)) r) ⌝ }
 {
     let word = writing::put(out, at, b"ok");
     let pids = delivered.pids;
-    let brought = details.values;
-    let notices = details.notices;
+    let brought = notes.values;
+    let notices = notes.notices;
     values(out, word, delivered.count, pids, brought, notices)
 }
 
@@ -279,18 +280,18 @@ fn accepted(
     out: &mut [u8],
     at: usize,
     said: Said,
-    details: Details,
+    notes: Notes,
     delivered: Response,
     area: &[u8],
 ) -> usize
-    ensures { λ r. ⌜ Wrote (now (out .entry)) at (acceptedText said details delivered (now (area .entry))) (now (out .exit)) r ⌝ }
+    ensures { λ r. ⌜ ((x : Lent) → Wrote (now (out .entry)) at (acceptedText said (detailsOf x notes) delivered (now (area .entry))) (now (out .exit)) r) ⌝ }
 {
-    let lines = details.lines;
-    let lengths = details.lengths;
-    let due = details.query;
+    let lines = notes.lines;
+    let lengths = notes.lengths;
+    let due = notes.query;
     match said {
         Said::Started => writing::put(out, at, b"started"),
-        Said::Done => done(out, at, details, delivered),
+        Said::Done => done(out, at, notes, delivered),
         Said::Client(n) => numbered(out, at, b"client ", n as u64),
         Said::Asked(answer) => asked(out, at, answer, lines, lengths, area),
         Said::Collected(pid, wait) => collected(out, at, pid, wait, lines, lengths, area),
@@ -303,19 +304,20 @@ fn accepted(
 }
 
 // What a call answers, without its report, from the place `at` on; the place behind it. `delivered` is the response
-// that the call brought, with a count of 0 for every other call; `area` is the lent area after the call.
+// that the call brought, with a count of 0 for every other call; `area` is the lent area after the call. Whatever the
+// report's lent numbers are, the answer is the same.
 pub fn said(
     out: &mut [u8],
     at: usize,
     answer: Answer,
-    details: Details,
+    notes: Notes,
     delivered: Response,
     area: &[u8],
 ) -> usize
-    ensures { λ r. ⌜ Wrote (now (out .entry)) at (saidText answer details delivered (now (area .entry))) (now (out .exit)) r ⌝ }
+    ensures { λ r. ⌜ ((x : Lent) → Wrote (now (out .entry)) at (saidText answer (detailsOf x notes) delivered (now (area .entry))) (now (out .exit)) r) ⌝ }
 {
     match answer {
         Answer::Refused(n) => numbered(out, at, b"refused ", n as u64),
-        Answer::Accepted(what) => accepted(out, at, what, details, delivered, area),
+        Answer::Accepted(what) => accepted(out, at, what, notes, delivered, area),
     }
 }

@@ -13,10 +13,14 @@ use Rattle.control.specs.declared.outbox.Slot.{Slot}
 use Rattle.control_line.specs.Ring.{from}
 use Rattle.control_line.specs.declared.ControlLine.{ControlLine}
 use Rattle.desk.specs.declared.Revs.{Revs}
+use Rattle.manager.specs.Rows.{manager-table}
+use Rattle.obd2.specs.Core.{Lent, boxOf}
 use Rattle.obd2.specs.declared.State.{State}
+use Rattle.obd2.specs.declared.core.Core.{Core}
 use Rattle.pid_list.specs.Laws.{size-le}
 use Rattle.pid_list.specs.Rules.{sizeOf, entries}
 use Rattle.pid_list.specs.declared.PidList.{PidList}
+use Rattle.pid_table.specs.Rows.{table-length}
 use Rattle.pid_table.specs.declared.PidInfo.{PidInfo}
 use Rattle.writing.specs.Fill.{fillOf, fillEnd, fill-fits, end-fits}
 use Rattle.writing.specs.Number.{decimal-short}
@@ -91,3 +95,7 @@ pub show-whole : (s : State) (d : List ℕ) (at : ℕ) → length (s .manager .t
     → (fillEnd d at (showText s) ≡ at + length (showText s)) × (fillOf d at (showText s) ≡ over d at (showText s))
 show-whole s d at h k =
     let n = show-short s h in (end-fits d at (showText s) (omega arith), fill-fits d at (showText s) (omega arith))
+
+-- A table that is lent has so many.
+pub lent-table : (x : Lent) (k : Core) → length (x .table) ≡ 256 → length (boxOf x k .manager .table) ≤ 256
+lent-table x k e = rw (manager-table (x .table) (k .manager), table-length (x .table), e) (omega arith)

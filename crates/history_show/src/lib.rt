@@ -2,14 +2,21 @@
 // last accepted time, the poller's lists, the manager's table, the control line, the revs.
 use config::PidPriority;
 use control::DongleMessage;
-use control_line::ControlLine;
+use control_line::places::Ends;
+use control_line::places::PLACES;
 use desk::Revs;
-use obd2::State;
+use obd2::core::Core;
 use pid_list::PidList;
 use pid_table::PidInfo;
-ghost use mathlib.Core.Bool.{_||_};
+ghost use mathlib.Core.Bool.{Bool, _||_};
+ghost use mathlib.Core.List.{List};
 ghost use mathlib.Core.Path.{_≡_};
-ghost use Prim.Native.Nat.{min};
+ghost use Prim.Native.Nat.{ℕ, min};
+ghost use lib.Ieee.{Float};
+ghost use lib.ListN.{length};
+ghost use Rattle.control_line.specs.Rows.{lineOf};
+ghost use Rattle.obd2.specs.Core.{lent, boxOf};
+ghost use Rattle.pid_table.specs.Rows.{infoOf, tableOf};
 ghost use Rattle.writing.specs.Fill.{Wrote, fillOf, fillEnd};
 ghost use Rattle.history_show.specs.Texts.{letterOf, listText, pinText, entryText, tableText, messageText, lineText, revsText, showText};
 ghost use Rattle.history_show.specs.Laws.{addedText};
@@ -56,15 +63,16 @@ fn entry(out: &mut [u8], at: usize, pid: u8, info: PidInfo) -> usize
     pin(out, next, info.pinned)
 }
 
-// The same where the PID is in the table, parted from those before; nothing where it is not.
-fn tracked(out: &mut [u8], at: usize, more: bool, pid: u8, info: PidInfo) -> usize
-    ensures { λ r. ⌜ Wrote (now (out .entry)) at (addedText more pid info) (now (out .exit)) r ⌝ }
+// The entry that a row is, where its PID is in the table, parted from those before; nothing where it is not.
+fn tracked(out: &mut [u8], at: usize, more: bool, pid: u8, row: [u64; 8]) -> usize
+    ensures { λ r. ⌜ Wrote (now (out .entry)) at (addedText more pid (infoOf row)) (now (out .exit)) r ⌝ }
 {
-    if info.tracked {
-        let next = writing_lists::comma(out, at, more);
-        return entry(out, next, pid, info);
+    if row[0] == 0 {
+        return at;
     }
-    at
+    let info = pid_table::rows::unpack(row);
+    let next = writing_lists::comma(out, at, more);
+    entry(out, next, pid, info)
 }
 
 // Whether one of the two holds.
@@ -75,16 +83,17 @@ fn either(a: bool, b: bool) -> bool
 }
 
 // The PIDs of the table, rising.
-fn table(out: &mut [u8], at: usize, table: [PidInfo; 256]) -> usize
-    ensures { λ r. ⌜ Wrote (now (out .entry)) at (tableText table) (now (out .exit)) r ⌝ }
+fn entries(out: &mut [u8], at: usize, table: &[[u64; 8]; 256]) -> usize
+    requires { ⌜ length (now table) ≡ 256 ⌝ }
+    ensures { λ r. ⌜ Wrote (now (out .entry)) at (tableText (tableOf (now (table .entry)))) (now (out .exit)) r ⌝ }
 {
     let mut place = writing::byte(out, at, b' ');
     let mut more = false;
     let mut i: usize = 0;
     while i < 256 {
-        let info = table[i];
-        place = tracked(out, place, more, i as u8, info);
-        more = either(more, info.tracked);
+        let row = table[i];
+        place = tracked(out, place, more, i as u8, row);
+        more = either(more, row[0] != 0);
         i += 1;
     }
     writing_lists::none(out, place, more)
@@ -114,17 +123,17 @@ fn waiting(count: u16) -> usize
 }
 
 // The control messages that wait, in order.
-fn line(out: &mut [u8], at: usize, line: ControlLine) -> usize
-    ensures { λ r. ⌜ Wrote (now (out .entry)) at (lineText line) (now (out .exit)) r ⌝ }
+fn line(out: &mut [u8], at: usize, slots: &[[u8; 2]; PLACES], ends: Ends) -> usize
+    ensures { λ r. ⌜ Wrote (now (out .entry)) at (lineText (lineOf (now (slots .entry)) ends)) (now (out .exit)) r ⌝ }
 {
-    let n = waiting(line.count);
-    let head = line.head as usize;
+    let n = waiting(ends.count);
+    let head = ends.head as usize;
     let mut place = writing::byte(out, at, b' ');
     let mut more = false;
     let mut i: usize = 0;
     while i < n {
-        let slot = line.slots[(head + i) % 1024];
-        let next = slot.message;
+        let row = slots[(head + i) % 1024];
+        let next = control_line::places::message_in(row[0], row[1]);
         place = writing_lists::comma(out, place, more);
         place = message(out, place, next);
         more = true;
@@ -144,22 +153,29 @@ fn revs(out: &mut [u8], at: usize, revs: Revs) -> usize
     writing::byte(out, next, b'-')
 }
 
-// The line from the place `at` on; the place behind it. 8,192 bytes have room for the whole of it.
-pub fn show(out: &mut [u8], at: usize, state: State) -> usize
-    ensures { λ r. ⌜ r ≡ fillEnd (now (out .entry)) at (showText state) ⌝ }
-    ensures { λ r. ⌜ now (out .exit) ≡ fillOf (now (out .entry)) at (showText state) ⌝ }
+// The line from the place `at` on; the place behind it. The table and the control line's places are lent, and of the
+// other lent arrays nothing is shown. 8,192 bytes have room for the whole of it.
+pub fn show(
+    out: &mut [u8],
+    at: usize,
+    table: &[[u64; 8]; 256],
+    slots: &[[u8; 2]; PLACES],
+    core: Core,
+) -> usize
+    requires { ⌜ length (now table) ≡ 256 ⌝ }
+    ensures { λ r. ⌜ ((replies : List (List ℕ)) (marks : List (List Bool)) (pids : List ℕ) (rates : List Float) → r ≡ fillEnd (now (out .entry)) at (showText (boxOf (lent replies marks (now (table .entry)) (now (slots .entry)) pids rates) core))) ⌝ }
+    ensures { λ _. ⌜ ((replies : List (List ℕ)) (marks : List (List Bool)) (pids : List ℕ) (rates : List Float) → now (out .exit) ≡ fillOf (now (out .entry)) at (showText (boxOf (lent replies marks (now (table .entry)) (now (slots .entry)) pids rates) core))) ⌝ }
 {
     let word = writing::put(out, at, b"show ");
-    let time = writing::number(out, word, state.time);
-    let fast = state.poller.fast;
+    let time = writing::number(out, word, core.time);
+    let fast = core.poller.fast;
     let first = list(out, time, fast);
-    let slow = state.poller.slow;
+    let slow = core.poller.slow;
     let second = list(out, first, slow);
-    let tracked = state.manager.table;
-    let third = table(out, second, tracked);
-    let control = state.line;
-    let fourth = line(out, third, control);
-    let known = state.desk.revs;
+    let third = entries(out, second, table);
+    let ends = core.line;
+    let fourth = line(out, third, slots, ends);
+    let known = core.desk.revs;
     let last = revs(out, fourth, known);
     writing::byte(out, last, b'\n')
 }

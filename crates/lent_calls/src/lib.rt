@@ -21,7 +21,7 @@ pub fn start(time: u64, settings: Settings, profiles: &[Profile]) -> Answered
     ensures { λ r. ⌜ numberIn (r .answer) ≡ startRefusal time settings (copiedOf (now (profiles .entry))) ⌝ }
 {
     let held = profile_list::copied(profiles);
-    setup_calls::start(time, settings, held)
+    by_value::start(time, settings, held)
 }
 
 // What a call brings, with these profiles in the place of its own.
@@ -49,5 +49,5 @@ pub fn call(
 {
     let held = profile_list::copied(profiles);
     let brought = bringing(brought, held);
-    dispatch::call(state, time, call, brought, cmd, area)
+    by_value::call(state, time, call, brought, cmd, area)
 }

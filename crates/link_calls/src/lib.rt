@@ -1,31 +1,32 @@
 // The box's calls of the connection: whether a reconnect may be tried, and how it went. The time is not tested
 // here: `dispatch::call` does that before, and is the box's door.
 use link::Session;
-use obd2::Answered;
 use obd2::Said;
-use obd2::State;
-use obd2::answers;
+use obd2::core::Core;
+use obd2::core::Told;
+use obd2::telling;
 use reply::RangeReply;
 ghost use mathlib.Core.Path.{_≡_};
 ghost use Rattle.base.specs.Each.{someOf};
 ghost use Rattle.obd2.specs.Call.{reconnectCheck, connect, connectFailed};
+ghost use Rattle.obd2.specs.Core.{Lent, boxOf, answeredOf};
 ghost use Rattle.obd2.specs.History.{inTime};
 ghost use Rattle.obd2.specs.Refusals.{overRange};
 
 // Whether a reconnect may be tried.
-pub fn reconnect_check(mut state: State, time: u64) -> Answered
-    ensures { λ r. ⌜ r ≡ inTime state (reconnectCheck time) ⌝ }
+pub fn reconnect_check(mut core: Core, time: u64) -> Told
+    ensures { λ r. ⌜ ((x : Lent) → answeredOf x r ≡ inTime (boxOf x core) (reconnectCheck time)) ⌝ }
 {
-    let poller = state.poller;
+    let poller = core.poller;
     let round = poller.round;
     if poller::open(round) {
-        return answers::refuse(state, 12);
+        return telling::refuse(core, 12);
     }
     let checked = poller::calls::reconnect(poller, time);
     let noted = checked.poller;
-    state.poller = noted;
-    let details = answers::no_details();
-    answers::accept(state, time, Said::Check(checked.yes), details)
+    core.poller = noted;
+    let notes = telling::no_notes();
+    telling::accept(core, time, Said::Check(checked.yes), notes)
 }
 
 // Whether a range's reply is over the limits. One that is absent is not.
@@ -55,39 +56,39 @@ fn any_over(ranges: [RangeReply; 8]) -> bool
 }
 
 // A connection was made, and hands in what the dongle told.
-pub fn connect(mut state: State, time: u64, session: Session) -> Answered
-    ensures { λ r. ⌜ r ≡ inTime state (connect time session) ⌝ }
+pub fn connect(mut core: Core, time: u64, session: Session) -> Told
+    ensures { λ r. ⌜ ((x : Lent) → answeredOf x r ≡ inTime (boxOf x core) (connect time session)) ⌝ }
 {
     let ranges = session.ranges;
     if any_over(ranges) {
-        return answers::refuse(state, 3);
+        return telling::refuse(core, 3);
     }
-    let poller = state.poller;
+    let poller = core.poller;
     let round = poller.round;
     if poller::open(round) {
-        return answers::refuse(state, 12);
+        return telling::refuse(core, 12);
     }
     let linked = poller::calls::connect(poller, session);
     let joined = linked.poller;
-    state.poller = joined;
+    core.poller = joined;
     let said = linked.said;
-    let details = answers::no_details();
-    answers::accept(state, time, Said::Connecting(said), details)
+    let notes = telling::no_notes();
+    telling::accept(core, time, Said::Connecting(said), notes)
 }
 
 // A connection was tried and not made.
-pub fn connect_failed(mut state: State, time: u64) -> Answered
-    ensures { λ r. ⌜ r ≡ inTime state (connectFailed time) ⌝ }
+pub fn connect_failed(mut core: Core, time: u64) -> Told
+    ensures { λ r. ⌜ ((x : Lent) → answeredOf x r ≡ inTime (boxOf x core) (connectFailed time)) ⌝ }
 {
-    let poller = state.poller;
+    let poller = core.poller;
     let round = poller.round;
     if poller::open(round) {
-        return answers::refuse(state, 12);
+        return telling::refuse(core, 12);
     }
     let tried = poller::calls::fail(poller);
     let cleared = tried.poller;
-    state.poller = cleared;
+    core.poller = cleared;
     let said = tried.said;
-    let details = answers::no_details();
-    answers::accept(state, time, Said::Connecting(said), details)
+    let notes = telling::no_notes();
+    telling::accept(core, time, Said::Connecting(said), notes)
 }

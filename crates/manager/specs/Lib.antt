@@ -3,3 +3,5 @@ pub mod Cases
 pub mod Names
 pub mod Laws
 pub mod Reported
+pub mod Rows
+pub mod Few

@@ -5,17 +5,25 @@ use mathlib.Core.Path.{_≡_, refl, sym, _∙_}
 use Prim.Native.Nat.{ℕ}
 use Rattle.base.specs.Choice.{cases}
 use Rattle.base.specs.Refusal.{firstOf}
+use Rattle.control_line.specs.Rows.{lineOf}
+use Rattle.control_line.specs.declared.places.Ends.{Ends}
+use Rattle.desk.specs.Core.{deskOf}
+use Rattle.manager.specs.Rows.{managerOf}
+use Rattle.manager.specs.declared.rows.Core.{Core as ManagerCore}
 use Rattle.obd2.specs.Accepted.{manager-numbered}
 use Rattle.obd2.specs.Answers.{settled-here, settled-next, settled-among, settled-none, settled-past}
 use Rattle.obd2.specs.Call.{ManagerCall, manager}
+use Rattle.obd2.specs.Core.{Lent, boxOf, answeredOf, refusing}
 use Rattle.obd2.specs.Done.{Managing, managerBy, managing, manages, doneOf}
 use Rattle.obd2.specs.History.{refused, accepting, settled, inTime}
 use Rattle.obd2.specs.Refusals.{exceeds, crowded, managerRows, rowsOf, rowRefusal}
 use Rattle.obd2.specs.State.{managed, delivering}
 use Rattle.obd2.specs.declared.Answered.{Answered}
 use Rattle.obd2.specs.declared.State.{State}
-use Rattle.manager_calls.specs.Send.{sendOf}
-use Rattle.manager_calls.specs.declared.Sent.{Sent}
+use Rattle.obd2.specs.declared.core.Core.{Core}
+use Rattle.obd2.specs.declared.core.Told.{Told}
+use Rattle.report.specs.Summary.{none-in}
+use Rattle.manager_calls.specs.Send.{Sent, sendOf}
 
 unfoldable pub settleOf : State → ℕ → Managing → Answered
 settleOf s t r = settled (firstOf ((15, crowded s (managing s t r)) ∷ [])) s (accepting t (manages s t r))
@@ -52,3 +60,16 @@ module _ (s : State) (t : ℕ) (c : ManagerCall) (n : ℕ) (e : n ≡ firstOf (m
   pub own-settled : n ≡ 0 → a ≡ settleOf s t (managerBy s c) → a ≡ inTime s (manager t c)
   unfolding inTime rowRefusal rowsOf doneOf settleOf
   own-settled h f = settled-past s _ n (managerRows s c) _ e (manager-numbered s c) h f
+
+-- The rest of the box with another manager's and line's.
+abbrev pub handling : Core → ManagerCore → Ends → Core
+handling k m l = record { desk = k .desk; manager = m; poller = k .poller; line = l; profiles = k .profiles; settings = k .settings; time = k .time }
+
+-- Refused by n: the manager and the line that came back are those that they were.
+pub handed-back : (x y : Lent) (k : Core) (m : ManagerCore) (l : Ends) (n : ℕ) (r : Told)
+    → deskOf (y .replies) (y .marks) (k .desk) ≡ deskOf (x .replies) (x .marks) (k .desk)
+    → managerOf (y .table) m ≡ managerOf (x .table) (k .manager)
+    → lineOf (y .slots) l ≡ lineOf (x .slots) (k .line)
+    → r ≡ refusing (handling k m l) n
+    → answeredOf y r ≡ refused (boxOf x k) n
+handed-back x y k m l n r d e g f = rw (f, none-in (y .pids) (y .rates), d, e, g)

@@ -6,3 +6,4 @@ pub mod History
 pub mod Answers
 pub mod Accepted
 pub mod Keeps
+pub mod Core

@@ -16,6 +16,9 @@ use rounds::Step;
 pub mod answers;
 // a call as a value
 pub mod call;
+// the box as it is held, its arrays lent, and answers over it put together
+pub mod core;
+pub mod telling;
 
 pub struct State {
     pub desk: Desk,

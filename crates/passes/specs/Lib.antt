@@ -2,3 +2,5 @@ pub mod Wishes
 pub mod Sweep
 pub mod Rests
 pub mod Laws
+pub mod Wanted
+pub mod Rows

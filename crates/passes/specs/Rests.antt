@@ -29,20 +29,20 @@ restsOf Remove t p i = not (i .tracked)
 restsOf Clear t p i = eqb (i .count) 0
 
 module _ (i : PidInfo) where
-  unwanted-rests : (w : Wish) (now : ℕ) → isUnwanted w ≡ true → i .pinned ≡ false → registeredOf w now i ≡ i
+  pub unwanted-rests : (w : Wish) (now : ℕ) → isUnwanted w ≡ true → i .pinned ≡ false → registeredOf w now i ≡ i
   unfolding registeredOf
   unwanted-rests Unwanted now e f = ap (withPin i) (sym f)
   unwanted-rests (Wanted p) now e f = never false e refl
 
-  untracked-stays : (limit now : ℕ) → i .tracked ≡ false → removedOf limit now i ≡ i
+  pub untracked-stays : (limit now : ℕ) → i .tracked ≡ false → removedOf limit now i ≡ i
   unfolding removedOf idleOf looseOf
   untracked-stays limit now e = rw e
 
-  untracked-undemoted : (limit removal now : ℕ) → i .tracked ≡ false → demotedOf limit removal now i ≡ i
+  pub untracked-undemoted : (limit removal now : ℕ) → i .tracked ≡ false → demotedOf limit removal now i ≡ i
   unfolding demotedOf demotesOf idleOf looseOf
   untracked-undemoted limit removal now e = rw e
 
-  uncounted-rests : i .count ≡ 0 → clearedOf i ≡ i
+  pub uncounted-rests : i .count ≡ 0 → clearedOf i ≡ i
   unfolding clearedOf
   uncounted-rests e = ap (withCount i) (sym e)
 

@@ -1,3 +1,4 @@
 pub mod Entry
 pub mod Cases
 pub mod Laws
+pub mod Rows

@@ -1,5 +1,7 @@
 // What the manager knows of a PID (the Rust's PidInfo), and what each event and each part of maintenance
 // makes of it. A PID's entry changes only by these functions.
+pub mod rows;
+
 use config::PidPriority;
 use control::DongleMessage;
 use control::outbox::Outbox;

@@ -1,13 +1,15 @@
 // The box's call that takes a control message. The time is not tested here: `dispatch::call` does that before, and is the
 // box's door.
 use control_line::Taken;
-use obd2::Answered;
+use control_line::places::PLACES;
 use obd2::Said;
-use obd2::State;
-use obd2::answers;
+use obd2::core::Core;
+use obd2::core::Told;
+use obd2::telling;
 use poller::Poller;
 ghost use mathlib.Core.Path.{_≡_};
 ghost use Rattle.obd2.specs.Call.{takeControl};
+ghost use Rattle.obd2.specs.Core.{Lent, withSlots, boxOf, answeredOf};
 ghost use Rattle.obd2.specs.Done.{listing};
 ghost use Rattle.obd2.specs.History.{inTime};
 
@@ -21,22 +23,22 @@ fn listing(poller: Poller, taken: Taken) -> Poller
     }
 }
 
-// The control message that has waited longest goes to the poller.
-pub fn take_control(mut state: State, time: u64) -> Answered
-    ensures { λ r. ⌜ r ≡ inTime state (takeControl time) ⌝ }
+// The control message that has waited longest goes to the poller. A message that is taken stays in its place, unread.
+pub fn take_control(slots: &[[u8; 2]; PLACES], mut core: Core, time: u64) -> Told
+    ensures { λ r. ⌜ ((x : Lent) → answeredOf (withSlots x (now (slots .entry))) r ≡ inTime (boxOf (withSlots x (now (slots .entry))) core) (takeControl time)) ⌝ }
 {
-    let poller = state.poller;
+    let poller = core.poller;
     let round = poller.round;
     if poller::open(round) {
-        return answers::refuse(state, 12);
+        return telling::refuse(core, 12);
     }
-    let line = state.line;
-    let shorter = control_line::take(line);
-    let left = shorter.line;
+    let ends = core.line;
+    let shorter = control_line::places::take(slots, ends);
+    let left = shorter.ends;
     let taken = shorter.taken;
     let listed = listing(poller, taken);
-    state.line = left;
-    state.poller = listed;
-    let details = answers::no_details();
-    answers::accept(state, time, Said::Taken(taken), details)
+    core.line = left;
+    core.poller = listed;
+    let notes = telling::no_notes();
+    telling::accept(core, time, Said::Taken(taken), notes)
 }

@@ -1,23 +1,30 @@
-// Runs the box from text: a call a line in, an answer a line out, as history-format.md has them. `history` takes a
-// line apart, `dispatch` applies a call to the box, `lent_calls` the start and the call that profiles are lent to,
-// `history_answer` and `history_show` put the answer together.
-use config::Profile;
-use config::Profiles;
+// Runs the box from text: a call a line in, an answer a line out, as history-format.md has them. `history` tells what
+// a line is and reads what it brings, `setup_calls` starts the box and `dispatch` applies a call to it, `history_answer` and
+// `history_show` put the answer together. The box's arrays are locals of `main`, lent down to each call; what is small of it
+// goes by value.
+use clients::PLACES;
 use config::Settings;
+use history::brought;
 use history_calls::Line;
+use history_calls::bringing::OutcomeRead;
+use history_calls::bringing::SessionRead;
+use history_lists::ProfilesRead;
+use history_lists::ResponseRead;
 use libc::STDIN_FILENO;
 use libc::STDOUT_FILENO;
 use lines::Fed;
 use lines::Reading;
-use obd2::Answer;
-use obd2::Answered;
-use obd2::Details;
-use obd2::State;
 use obd2::call::Brought;
 use obd2::call::Call;
+use obd2::core::Told;
 use poller::Round;
 use reply::Response;
-ghost use Prim.Native.Nat.{_≤_};
+use reply::rows::ROW;
+ghost use mathlib.Core.Path.{_≡_};
+ghost use lib.ListN.{length};
+ghost use Rattle.clients.specs.Rules.{places};
+ghost use Rattle.dispatch.specs.Dispatch.{Whole};
+ghost use Rattle.obd2.specs.Core.{lent};
 
 // The longest line that is taken, the largest lent area, and the room for answers that wait to be written.
 const LONGEST: usize = 8191;
@@ -29,35 +36,53 @@ const ANSWERS: usize = 65536;
 // No answer is longer: a call's has at most 4,096 bytes (`answer-whole`), that of `show` 8,192 (`show-whole`).
 const ANSWER: usize = 16384;
 
-// The places of the list of profiles that is lent: one more than the box takes, so that a longer list is told from one
-// of 16.
-const LISTED: usize = 17;
+// The places of the control line.
+const WAITING: usize = control_line::places::PLACES;
 
-// The last answer, which has the box, and what stands beside it.
+// The last answer, which has what goes by value of the box, what the calls brought, and the notes beside them.
 struct Playing {
-    last: Answered,
+    last: Told,
+    brought: Brought,
     notes: Notes,
 }
 
-// What the last call brought, how many bytes of answers wait to be written, and the line that is being read.
+// How many bytes of answers wait to be written, and the line that is being read.
 struct Notes {
-    brought: Brought,
     waiting: usize,
     reading: Reading,
 }
 
-// What a line asks for, and the notes with what it brought.
+// What a line asks for if the list that it brings is good, that list, and the notes.
 struct Taken {
     notes: Notes,
     task: Task,
+    list: List,
 }
 
-// `Nothing` where no line has ended, or one that has its answer already.
+// `Nothing` where no line has ended, or one that has no answer.
 enum Task {
     Nothing,
+    Bad,
     Show,
-    Lend(Lent),
+    Start(Starting),
     Call(Asked),
+}
+
+// What a line brings, as `history::brought` has it. It is read for the lines alone that bring something: no other has
+// to carry it.
+enum List {
+    None,
+    StartProfiles,
+    Profiles,
+    Response,
+    Session,
+    Outcome,
+}
+
+// What the calls brought, and whether the line's list is good.
+struct Bringing {
+    brought: Brought,
+    good: bool,
 }
 
 // A call, its time, how many bytes its command has and how many the area that is lent to it.
@@ -68,10 +93,10 @@ struct Asked {
     area: usize,
 }
 
-// The start, and the one call that profiles are lent to.
-enum Lent {
-    Start { time: u64, settings: Settings },
-    ProfilePidsChanged { time: u64 },
+// A start; its profiles are brought.
+struct Starting {
+    time: u64,
+    settings: Settings,
 }
 
 // The box after a part of the input, and whether there may be more of it.
@@ -81,16 +106,28 @@ struct Turn {
 }
 
 // Before the first start the box is the one that a refused start gives: no box starts at so late a time.
-fn first() -> Playing {
+fn first(
+    replies: &mut [[u8; ROW]; 256],
+    marks: &mut [[bool; 256]; PLACES],
+    table: &mut [[u64; 8]; 256],
+    slots: &mut [[u8; 2]; WAITING],
+) -> Playing
+    ensures { λ _. ⌜ length (now (marks .exit)) ≡ places ⌝ }
+    ensures { λ _. ⌜ length (now (table .exit)) ≡ 256 ⌝ }
+{
     let brought = history::nothing();
     let profiles = brought.profiles;
-    let last = lend_start(u64::MAX, config::default_settings(), profiles);
+    let settings = config::default_settings();
+    let last = setup_calls::start(replies, marks, table, slots, u64::MAX, settings, profiles);
     let notes = Notes {
-        brought,
         waiting: 0,
         reading: lines::start(),
     };
-    Playing { last, notes }
+    Playing {
+        last,
+        brought,
+        notes,
+    }
 }
 
 // How many PIDs the query has whose result is due.
@@ -109,84 +146,30 @@ fn delivered(call: Call, mut response: Response) -> Response {
     }
 }
 
-// The profiles that a line has, as a list that can be lent.
-fn listed(profiles: Profiles) -> [Profile; LISTED] {
-    let none = Profile {
-        kind: 0,
-        pid: 0,
-        priority: 0,
-        limited: false,
-        threshold: 0,
-        enabled: false,
-    };
-    let mut list = [none; LISTED];
-    let mut i = 0;
-    while i < 16 {
-        list[i] = profiles.list[i];
-        i += 1;
-    }
-    list
-}
-
-// How many of the list are lent: 17 stands for every line with more than 16.
-fn listed_count(profiles: Profiles) -> usize
-    ensures { λ r. ⌜ r ≤ 17 ⌝ }
-{
-    base::least(profiles.count as usize, LISTED)
-}
-
-// The start, with the profiles lent.
-fn lend_start(time: u64, settings: Settings, profiles: Profiles) -> Answered {
-    let list = listed(profiles);
-    let n = listed_count(profiles);
-    lent_calls::start(time, settings, &list[..n])
-}
-
-// A call, with the profiles lent that the line brought; `lent_calls` puts them in the place of those in `brought`.
-fn lend_call(
-    state: State,
-    time: u64,
-    call: Call,
-    profiles: Profiles,
-    brought: Brought,
-    cmd: &[u8],
-    area: &mut [u8],
-) -> Answered {
-    let list = listed(profiles);
-    let n = listed_count(profiles);
-    lent_calls::call(state, time, call, &list[..n], brought, cmd, area)
-}
-
-// What takes the profiles of the line.
-fn lend(state: State, lent: Lent, brought: Brought, area: &mut [u8]) -> Answered {
-    let profiles = brought.profiles;
-    match lent {
-        Lent::Start { time, settings } => lend_start(time, settings, profiles),
-        Lent::ProfilePidsChanged { time } => {
-            lend_call(
-                state,
-                time,
-                Call::ProfilePidsChanged,
-                profiles,
-                brought,
-                b"",
-                area,
-            )
-        }
-    }
-}
-
-// Puts an answer behind those that wait.
+// Puts the last answer behind those that wait.
 fn tell(
     mut notes: Notes,
-    call: Call,
-    answer: Answer,
-    details: Details,
+    pids: &[u8; 256],
+    rates: &[f32; 256],
+    response: Response,
+    last: Told,
     area: &[u8],
     out: &mut [u8],
-) -> Notes {
-    let response = delivered(call, notes.brought.response);
-    notes.waiting = history_answer::answer(out, notes.waiting, answer, details, response, area);
+) -> Notes
+    requires { ⌜ length (now pids) ≡ 256 ⌝ }
+    requires { ⌜ length (now rates) ≡ 256 ⌝ }
+{
+    let answer = last.answer;
+    notes.waiting = history_answer::answer(
+        out,
+        notes.waiting,
+        pids,
+        rates,
+        answer,
+        last.notes,
+        response,
+        area,
+    );
     notes
 }
 
@@ -206,152 +189,274 @@ fn room(notes: Notes, out: &[u8]) -> Notes {
     notes
 }
 
-// The line is no call, and has its answer.
-fn bad(mut notes: Notes, out: &mut [u8]) -> Taken {
-    notes.waiting = history_answer::bad_line(out, notes.waiting);
-    Taken {
-        notes,
-        task: Task::Nothing,
-    }
+// A call without a command and an area.
+fn bare(time: u64, call: Call) -> Task {
+    Task::Call(Asked {
+        time,
+        call,
+        cmd: 0,
+        area: 0,
+    })
 }
 
-// What a line asks for that is a call.
-fn calling(time: u64, call: Call, cmd: usize, area: usize) -> Task {
-    match call {
-        Call::ProfilePidsChanged => Task::Lend(Lent::ProfilePidsChanged { time }),
-        _ => Task::Call(Asked {
-            time,
-            call,
-            cmd,
-            area,
-        }),
-    }
-}
-
-// What a line asks for that was taken apart.
-fn task_of(notes: Notes, line: Line, out: &mut [u8]) -> Taken {
+// What a line asks for, if its list is good.
+fn task_of(line: Line) -> Task {
     match line {
-        Line::Bad => bad(notes, out),
-        Line::Show => Taken {
-            notes,
-            task: Task::Show,
-        },
-        Line::Start { time, settings } => Taken {
-            notes,
-            task: Task::Lend(Lent::Start { time, settings }),
-        },
+        Line::Bad => Task::Bad,
+        Line::Show => Task::Show,
         Line::Call {
             time,
             call,
             cmd,
             area,
-        } => {
-            let task = calling(time, call, cmd, area);
-            Taken { notes, task }
-        }
+        } => Task::Call(Asked {
+            time,
+            call,
+            cmd,
+            area,
+        }),
+        Line::Start { time, settings } => Task::Start(Starting { time, settings }),
+        Line::Profiles { time } => bare(time, Call::ProfilePidsChanged),
+        Line::Response { time } => bare(time, Call::Response),
+        Line::Connect { time } => bare(time, Call::Connect),
+        Line::Result { time } => bare(time, Call::Result),
+    }
+}
+
+// The list that a line brings.
+fn list_of(line: Line) -> List {
+    match line {
+        Line::Start {
+            time: _,
+            settings: _,
+        } => List::StartProfiles,
+        Line::Profiles { time: _ } => List::Profiles,
+        Line::Response { time: _ } => List::Response,
+        Line::Connect { time: _ } => List::Session,
+        Line::Result { time: _ } => List::Outcome,
+        _ => List::None,
+    }
+}
+
+fn brings(list: List) -> bool {
+    match list {
+        List::None => false,
+        _ => true,
+    }
+}
+
+// A task that no list goes with.
+fn alone(notes: Notes, task: Task) -> Taken {
+    Taken {
+        notes,
+        task,
+        list: List::None,
     }
 }
 
 // What a line asks for that has ended. One that is too long is no call.
-fn read_line(
-    notes: Notes,
-    line: &[u8],
-    long: bool,
-    round: Round,
-    bytes: &mut [u8],
-    out: &mut [u8],
-) -> Taken {
+fn read_line(notes: Notes, line: &[u8], long: bool, bytes: &mut [u8], out: &[u8]) -> Taken {
     if !lines::answers(line) {
-        return Taken {
-            notes,
-            task: Task::Nothing,
-        };
+        return alone(notes, Task::Nothing);
     }
-    let mut notes = room(notes, out);
+    let notes = room(notes, out);
     if long {
-        return bad(notes, out);
+        return alone(notes, Task::Bad);
     }
-    let brought = notes.brought;
-    let parsed = history::parse(brought, line, poller::due(round), named(round), bytes);
-    let next = parsed.brought;
-    let what = parsed.line;
-    notes.brought = next;
-    task_of(notes, what, out)
+    let what = history::parse(line, bytes);
+    Taken {
+        notes,
+        task: task_of(what),
+        list: list_of(what),
+    }
 }
 
-// What is to be done once a part of the input was read.
-fn take_line(
-    mut notes: Notes,
-    fed: Fed,
-    round: Round,
-    line: &[u8],
-    bytes: &mut [u8],
-    out: &mut [u8],
-) -> Taken {
+// What is to be done once a part of the input was read, of which `line` is the line.
+fn take_line(mut notes: Notes, fed: Fed, line: &[u8], bytes: &mut [u8], out: &[u8]) -> Taken {
     let read = fed.reading;
     if !fed.ended {
         notes.reading = read;
-        return Taken {
-            notes,
-            task: Task::Nothing,
-        };
+        return alone(notes, Task::Nothing);
     }
     notes.reading = lines::start();
-    let len = base::least(read.len, line.len());
-    read_line(notes, &line[..len], read.long, round, bytes, out)
+    read_line(notes, line, read.long, bytes, out)
 }
 
-// Answers each line that ends in a part of the input. The box stands in the last answer and goes from it straight into
-// the next call: each place that it is put down in between costs a copy of it.
+fn bring_profiles(mut brought: Brought, read: ProfilesRead) -> Bringing {
+    if read.good {
+        let profiles = read.profiles;
+        brought.profiles = profiles;
+    }
+    Bringing {
+        brought,
+        good: read.good,
+    }
+}
+
+fn bring_response(mut brought: Brought, read: ResponseRead) -> Bringing {
+    if read.good {
+        let response = read.response;
+        brought.response = response;
+    }
+    Bringing {
+        brought,
+        good: read.good,
+    }
+}
+
+fn bring_session(mut brought: Brought, read: SessionRead) -> Bringing {
+    if read.good {
+        let session = read.session;
+        brought.session = session;
+    }
+    Bringing {
+        brought,
+        good: read.good,
+    }
+}
+
+fn bring_outcome(mut brought: Brought, read: OutcomeRead) -> Bringing {
+    if read.good {
+        let outcome = read.outcome;
+        brought.outcome = outcome;
+    }
+    Bringing {
+        brought,
+        good: read.good,
+    }
+}
+
+// Puts what a line brings in the place of what such a line brought before; a bad list leaves it as it was.
+fn bring(brought: Brought, list: List, line: &[u8], round: Round) -> Bringing {
+    match list {
+        List::None => Bringing {
+            brought,
+            good: true,
+        },
+        List::StartProfiles => bring_profiles(brought, brought::start_profiles(line)),
+        List::Profiles => bring_profiles(brought, brought::profiles(line)),
+        List::Response => bring_response(brought, brought::response(line)),
+        List::Session => bring_session(brought, brought::session(line)),
+        List::Outcome => bring_outcome(
+            brought,
+            brought::outcome(line, poller::due(round), named(round)),
+        ),
+    }
+}
+
+// A line whose list is bad is bad.
+fn if_good(task: Task, good: bool) -> Task {
+    if good {
+        return task;
+    }
+    Task::Bad
+}
+
+// Answers each line that ends in a part of the input. What goes by value of the box stands in the last answer and goes from it
+// straight into the next call: each place that it is put down in between costs a copy of it.
 fn answer_part(
+    replies: &mut [[u8; ROW]; 256],
+    marks: &mut [[bool; 256]; PLACES],
+    table: &mut [[u64; 8]; 256],
+    slots: &mut [[u8; 2]; WAITING],
+    pids: &mut [u8; 256],
+    rates: &mut [f32; 256],
     playing: Playing,
     input: &[u8],
     line: &mut [u8],
     bytes: &mut [u8],
     area: &mut [u8],
     out: &mut [u8],
-) -> Playing {
+) -> Playing
+    requires { ⌜ Whole (lent (now replies) (now marks) (now table) (now slots) (now pids) (now rates)) ⌝ }
+    ensures { λ _. ⌜ Whole (lent (now (replies .exit)) (now (marks .exit)) (now (table .exit)) (now (slots .exit)) (now (pids .exit)) (now (rates .exit))) ⌝ }
+{
     let mut last = playing.last;
+    let mut brought = playing.brought;
     let mut notes = playing.notes;
     let mut at = 0;
     while at < input.len() {
         let fed = lines::feed(notes.reading, &input[at..], line);
         at += fed.used;
-        let taken = take_line(notes, fed, last.state.poller.round, line, bytes, out);
+        let len = base::least(fed.reading.len, line.len());
+        let taken = take_line(notes, fed, &line[..len], bytes, out);
         notes = taken.notes;
-        let task = taken.task;
+        let mut task = taken.task;
+        let list = taken.list;
+        if brings(list) {
+            let read = bring(brought, list, &line[..len], last.core.poller.round);
+            brought = read.brought;
+            task = if_good(task, read.good);
+        }
         match task {
             Task::Nothing => {}
-            Task::Show => notes.waiting = history_show::show(out, notes.waiting, last.state),
-            Task::Lend(lent) => {
-                last = lend(last.state, lent, notes.brought, area);
-                let answer = last.answer;
-                // like a tick, neither of the two brings a response
-                notes = tell(notes, Call::Tick, answer, last.details, b"", out);
+            Task::Bad => notes.waiting = history_answer::bad_line(out, notes.waiting),
+            Task::Show => {
+                notes.waiting = history_show::show(out, notes.waiting, table, slots, last.core);
+            }
+            Task::Start(asked) => {
+                last = setup_calls::start(
+                    replies,
+                    marks,
+                    table,
+                    slots,
+                    asked.time,
+                    asked.settings,
+                    brought.profiles,
+                );
+                // like a tick, a start brings no response
+                let response = delivered(Call::Tick, brought.response);
+                notes = tell(notes, pids, rates, response, last, b"", out);
             }
             Task::Call(asked) => {
                 let cmd = &bytes[..base::least(asked.cmd, bytes.len())];
                 let m = base::least(asked.area, area.len());
                 let room = &mut area[..m];
                 let call = asked.call;
-                last = dispatch::call(last.state, asked.time, call, notes.brought, cmd, room);
-                let answer = last.answer;
-                notes = tell(notes, call, answer, last.details, &area[..m], out);
+                last = dispatch::call(
+                    replies,
+                    marks,
+                    table,
+                    slots,
+                    pids,
+                    rates,
+                    last.core,
+                    asked.time,
+                    call,
+                    brought,
+                    cmd,
+                    room,
+                );
+                let response = delivered(call, brought.response);
+                notes = tell(notes, pids, rates, response, last, &area[..m], out);
             }
         }
     }
     notes = flush(notes, out);
-    Playing { last, notes }
+    Playing {
+        last,
+        brought,
+        notes,
+    }
 }
 
 // Reads a part of the input and answers it.
 fn read_part(
+    replies: &mut [[u8; ROW]; 256],
+    marks: &mut [[bool; 256]; PLACES],
+    table: &mut [[u64; 8]; 256],
+    slots: &mut [[u8; 2]; WAITING],
+    pids: &mut [u8; 256],
+    rates: &mut [f32; 256],
     playing: Playing,
     line: &mut [u8],
     bytes: &mut [u8],
     area: &mut [u8],
     out: &mut [u8],
-) -> Turn {
+) -> Turn
+    requires { ⌜ Whole (lent (now replies) (now marks) (now table) (now slots) (now pids) (now rates)) ⌝ }
+    ensures { λ _. ⌜ Whole (lent (now (replies .exit)) (now (marks .exit)) (now (table .exit)) (now (slots .exit)) (now (pids .exit)) (now (rates .exit))) ⌝ }
+{
     let mut input = io::large_buffer();
     let got = libc::read(STDIN_FILENO, &mut input);
     let n = io::count(got, &input);
@@ -362,21 +467,73 @@ fn read_part(
         };
     }
     Turn {
-        playing: answer_part(playing, &input[..n], line, bytes, area, out),
+        playing: answer_part(
+            replies,
+            marks,
+            table,
+            slots,
+            pids,
+            rates,
+            playing,
+            &input[..n],
+            line,
+            bytes,
+            area,
+            out,
+        ),
         more: true,
     }
 }
 
 // A proved loop has to end, and nothing says that an input does: the turns are counted down from a number
 // that no run uses up. A line feed behind the input ends a last line that has none.
-fn run(line: &mut [u8], bytes: &mut [u8], area: &mut [u8], out: &mut [u8]) {
-    let mut playing = first();
+fn run(
+    replies: &mut [[u8; ROW]; 256],
+    marks: &mut [[bool; 256]; PLACES],
+    table: &mut [[u64; 8]; 256],
+    slots: &mut [[u8; 2]; WAITING],
+    pids: &mut [u8; 256],
+    rates: &mut [f32; 256],
+    line: &mut [u8],
+    bytes: &mut [u8],
+    area: &mut [u8],
+    out: &mut [u8],
+)
+    requires { ⌜ length (now pids) ≡ 256 ⌝ }
+    requires { ⌜ length (now rates) ≡ 256 ⌝ }
+{
+    let mut playing = first(replies, marks, table, slots);
     let mut turns = u64::MAX;
     while turns > 0 {
-        let turn = read_part(playing, line, bytes, area, out);
+        let turn = read_part(
+            replies,
+            marks,
+            table,
+            slots,
+            pids,
+            rates,
+            playing,
+            line,
+            bytes,
+            area,
+            out,
+        );
         playing = turn.playing;
         if !turn.more {
-            answer_part(playing, b"\n", line, bytes, area, out);
+            answer_part(
+                replies,
+                marks,
+                table,
+                slots,
+                pids,
+                rates,
+                playing,
+                b"\n",
+                line,
+                bytes,
+                area,
+                out,
+            );
             return;
         }
         turns -= 1;
@@ -388,5 +545,22 @@ fn main() {
     let mut bytes = [0u8; LONGEST];
     let mut area = [0u8; AREA];
     let mut out = [0u8; ANSWERS];
-    run(&mut line, &mut bytes, &mut area, &mut out);
+    let mut replies = reply::rows::blank();
+    let mut marks = clients::seats::blank();
+    let mut table = [[0u64; 8]; 256];
+    let mut slots = [[0u8; 2]; WAITING];
+    let mut pids = [0u8; 256];
+    let mut rates = [0.0f32; 256];
+    run(
+        &mut replies,
+        &mut marks,
+        &mut table,
+        &mut slots,
+        &mut pids,
+        &mut rates,
+        &mut line,
+        &mut bytes,
+        &mut area,
+        &mut out,
+    );
 }

@@ -1,4 +1,6 @@
 // A reply of the dongle: one line for each control unit that answered, as the Rust's Lines.
+pub mod rows;
+
 ghost use mathlib.Core.Path.{_≡_};
 ghost use Rattle.reply.specs.Rules.{emptyReply, countedOf, totalOf, withinOf, sizeOf, filledOf, firstLengthOf};
 

@@ -3,3 +3,4 @@ pub mod Metrics
 pub mod Report
 pub mod Order
 pub mod Sorted
+pub mod Summary

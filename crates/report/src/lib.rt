@@ -1,11 +1,13 @@
 // The report of a maintenance: how often clients consumed each PID, and how often the cache had a reading.
 pub mod metrics;
+pub mod rows;
+pub mod summary;
 
 use metrics::CacheMetrics;
 use pid_table::PidInfo;
 ghost use mathlib.Core.Path.{_≡_};
-ghost use Rattle.report.specs.Report.{noReport, reportOf};
-ghost use Rattle.report.specs.Rates.{aheadOf, listedOf, insertOf, noRates, ratesFrom};
+ghost use Rattle.report.specs.Report.{noReport};
+ghost use Rattle.report.specs.Rates.{aheadOf, listedOf, insertOf, noRates};
 
 // How often a PID was consumed in a second.
 pub struct Rated {
@@ -73,29 +75,6 @@ fn insert(mut rates: Rates, rated: Rated) -> Rates
     rates
 }
 
-// The rates of a table's PIDs over this time.
-fn rates_of(table: [PidInfo; 256], elapsed: u64) -> Rates
-    ensures { λ r. ⌜ r ≡ ratesFrom elapsed 0 table noRates ⌝ }
-{
-    let mut found = no_rates();
-    let mut i: usize = 0;
-    while i < 256 {
-        let info = table[i];
-        if listed(info) {
-            let rate = rate::rate(info.count, elapsed);
-            found = insert(
-                found,
-                Rated {
-                    pid: i as u8,
-                    rate: rate,
-                },
-            );
-        }
-        i += 1;
-    }
-    found
-}
-
 // What a maintenance answers. The mean wait stays undivided: the total and the misses.
 pub struct Report {
     // whether maintenance ran in the call; if not, there is nothing in the report
@@ -116,18 +95,5 @@ pub fn no_report() -> Report
         rates: rates,
         metrics: metrics,
         hitrate: 0.0,
-    }
-}
-
-pub fn report_of(table: [PidInfo; 256], metrics: CacheMetrics, elapsed: u64) -> Report
-    ensures { λ r. ⌜ r ≡ reportOf table metrics elapsed ⌝ }
-{
-    let rates = rates_of(table, elapsed);
-    let hitrate = rate::hit_rate(metrics.hits, metrics.misses);
-    Report {
-        ran: true,
-        rates: rates,
-        metrics: metrics,
-        hitrate: hitrate,
     }
 }

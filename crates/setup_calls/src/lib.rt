@@ -1,39 +1,58 @@
 // The box's start, and the call that changes its settings. Neither has a report, and the settings send nothing.
 // The time of a settings call is not tested here: `dispatch::call` does that before.
+use clients::PLACES;
 use config::Profiles;
 use config::Settings;
 use obd2::Answer;
-use obd2::Answered;
 use obd2::Said;
-use obd2::State;
 use obd2::answers;
+use obd2::core::Core;
+use obd2::core::Told;
+use obd2::telling;
 use passes::Terms;
+use reply::rows::ROW;
+ghost use mathlib.Core.List.{List};
 ghost use mathlib.Core.Path.{_≡_};
+ghost use Prim.Native.Nat.{ℕ};
+ghost use lib.Ieee.{Float};
+ghost use lib.ListN.{length};
+ghost use Rattle.clients.specs.Rules.{places};
 ghost use Rattle.config.specs.Blank.{noProfiles};
 ghost use Rattle.config.specs.Defaults.{defaultSettings};
 ghost use Rattle.obd2.specs.Answers.{numberIn};
 ghost use Rattle.obd2.specs.Call as call;
+ghost use Rattle.obd2.specs.Core.{Lent, lent, boxOf, answeredOf};
 ghost use Rattle.obd2.specs.History.{refused, inTime, startOf};
 ghost use Rattle.obd2.specs.Refusals.{startRefusal};
 ghost use Rattle.obd2.specs.State.{started};
 
-// The box before its first call. An empty line has room for all that a start sends.
-fn started(time: u64, settings: Settings, profiles: Profiles) -> State
-    ensures { λ r. ⌜ r ≡ started time settings profiles ⌝ }
+// The box before its first call, whatever its arrays had. An empty line has room for all that a start sends.
+fn started(
+    replies: &mut [[u8; ROW]; 256],
+    marks: &mut [[bool; 256]; PLACES],
+    table: &mut [[u64; 8]; 256],
+    slots: &mut [[u8; 2]; control_line::places::PLACES],
+    time: u64,
+    settings: Settings,
+    profiles: Profiles,
+) -> Core
+    ensures { λ _. ⌜ length (now (marks .exit)) ≡ places ⌝ }
+    ensures { λ _. ⌜ length (now (table .exit)) ≡ 256 ⌝ }
+    ensures { λ r. ⌜ ((pids : List ℕ) (rates : List Float) → boxOf (lent (now (replies .exit)) (now (marks .exit)) (now (table .exit)) (now (slots .exit)) pids rates) r ≡ started time settings profiles) ⌝ }
 {
     let terms = Terms {
         profiles: profiles,
         settings: settings,
         now: time,
     };
-    let managed = manager::start(terms);
-    let manager = managed.manager;
+    let managed = manager::rows::start(table, terms);
+    let manager = managed.core;
     let sent = managed.outbox;
-    let nothing = control_line::empty();
-    let line = control_line::push_all(nothing, sent);
-    let desk = desk::new();
+    let nothing = control_line::places::clear(slots);
+    let line = control_line::places::push_all(slots, nothing, sent);
+    let desk = desk::core::start(replies, marks);
     let poller = poller::new(time);
-    State {
+    Core {
         desk: desk,
         manager: manager,
         poller: poller,
@@ -45,46 +64,64 @@ fn started(time: u64, settings: Settings, profiles: Profiles) -> State
 }
 
 // A refused start: its number, and a box that is there all the same.
-fn refuse_start(number: u8) -> Answered
-    ensures { λ r. ⌜ r ≡ refused (started 0 defaultSettings noProfiles) number ⌝ }
+fn refuse_start(
+    replies: &mut [[u8; ROW]; 256],
+    marks: &mut [[bool; 256]; PLACES],
+    table: &mut [[u64; 8]; 256],
+    slots: &mut [[u8; 2]; control_line::places::PLACES],
+    number: u8,
+) -> Told
+    ensures { λ _. ⌜ length (now (marks .exit)) ≡ places ⌝ }
+    ensures { λ _. ⌜ length (now (table .exit)) ≡ 256 ⌝ }
+    ensures { λ r. ⌜ ((pids : List ℕ) (rates : List Float) → answeredOf (lent (now (replies .exit)) (now (marks .exit)) (now (table .exit)) (now (slots .exit)) pids rates) r ≡ refused (started 0 defaultSettings noProfiles) number) ⌝ }
 {
     let settings = config::default_settings();
     let profiles = config::no_profiles();
-    let state = started(0, settings, profiles);
-    answers::refuse(state, number)
+    let core = started(replies, marks, table, slots, 0, settings, profiles);
+    telling::refuse(core, number)
 }
 
 // The box's start. No time comes before it, so that only a late one is refused.
-pub fn start(time: u64, settings: Settings, profiles: Profiles) -> Answered
-    ensures { λ r. ⌜ r ≡ startOf time settings profiles ⌝ }
+pub fn start(
+    replies: &mut [[u8; ROW]; 256],
+    marks: &mut [[bool; 256]; PLACES],
+    table: &mut [[u64; 8]; 256],
+    slots: &mut [[u8; 2]; control_line::places::PLACES],
+    time: u64,
+    settings: Settings,
+    profiles: Profiles,
+) -> Told
+    ensures { λ _. ⌜ length (now (marks .exit)) ≡ places ⌝ }
+    ensures { λ _. ⌜ length (now (table .exit)) ≡ 256 ⌝ }
+    ensures { λ r. ⌜ ((pids : List ℕ) (rates : List Float) → answeredOf (lent (now (replies .exit)) (now (marks .exit)) (now (table .exit)) (now (slots .exit)) pids rates) r ≡ startOf time settings profiles) ⌝ }
     ensures { λ r. ⌜ numberIn (r .answer) ≡ startRefusal time settings profiles ⌝ }
 {
     if answers::bad_time(0, time) {
-        return refuse_start(1);
+        return refuse_start(replies, marks, table, slots, 1);
     }
     if profile_check::unknown_mode(settings.mode) {
-        return refuse_start(2);
+        return refuse_start(replies, marks, table, slots, 2);
     }
     if profile_check::bad_profiles(profiles) {
-        return refuse_start(2);
+        return refuse_start(replies, marks, table, slots, 2);
     }
-    let state = started(time, settings, profiles);
-    let details = answers::no_details();
-    Answered {
-        state: state,
+    let core = started(replies, marks, table, slots, time, settings, profiles);
+    let notes = telling::no_notes();
+    Told {
+        core: core,
         answer: Answer::Accepted(Said::Started),
-        details: details,
+        notes: notes,
     }
 }
 
 // The settings in force from now on. An open round keeps those that its begin found.
-pub fn set_settings(mut state: State, time: u64, settings: Settings) -> Answered
-    ensures { λ r. ⌜ r ≡ inTime state (call.settings time settings) ⌝ }
+pub fn set_settings(mut core: Core, time: u64, settings: Settings) -> Told
+    ensures { λ r. ⌜ ((x : Lent) → answeredOf x r ≡ inTime (boxOf x core) (call.settings time settings)) ⌝ }
 {
     if profile_check::unknown_mode(settings.mode) {
-        return answers::refuse(state, 2);
+        return telling::refuse(core, 2);
     }
-    state.settings = settings;
-    let details = answers::no_details();
-    answers::accept(state, time, Said::Done, details)
+    core.settings = settings;
+    let notes = telling::no_notes();
+    telling::accept(core, time, Said::Done, notes)
 }

@@ -34,9 +34,3 @@ module _ (d t : List ℕ) (place : ℕ) (out : List ℕ) (j : Joined d t place o
       let z : place ≡ 0 + length t = omega arith in
       let l : length out ≡ length d = rw (j .out-is) (over-length d 0 t (omega arith)) in
       (omega arith, rw (j .out-is, z) (take-over d 0 t (omega arith)))
-
-  -- as one text it would have been put so too
-  pub joined-put : length t ≤ length d → (place ≡ putEnd d 0 t) × (out ≡ putOf d 0 t)
-  joined-put h =
-      let p = j .place-is in
-      (omega (arith, end-fits d 0 t (omega arith)), rw (put-fits d 0 t (omega arith)) (j .out-is))

@@ -4,8 +4,8 @@ use mathlib.Core.Path.{_≡_}
 use Prim.Native.Nat.{ℕ, _+_, _<_, _≤_}
 use lib.Dec.{leb}
 use lib.ListN.{length}
-use borrow.Author.Tests.{leb-true, le-leb, lt-leb}
-use Rattle.base.specs.Choice.{pick, cases}
+use borrow.Author.Tests.{le-leb, lt-leb}
+use Rattle.base.specs.Choice.{pick}
 use Rattle.base.specs.Write.{over}
 
 -- The text s written from the place at, where it has room; else the memory as it was.
@@ -17,14 +17,6 @@ unfoldable pub putEnd : List ℕ → ℕ → List ℕ → ℕ
 putEnd d at s = pick (leb (at + length s) (length d)) (at + length s) at
 
 module _ (d : List ℕ) (at : ℕ) (s : List ℕ) where
-  -- A place within the memory stays within it.
-  pub put-within : at ≤ length d → putEnd d at s ≤ length d
-  unfolding putEnd
-  put-within h =
-      cases _ (leb (at + length s) (length d))
-      (λ e. rw e (leb-true _ _ e))
-      (λ e. rw e h)
-
   pub put-full : length d < at + length s → putOf d at s ≡ d
   unfolding putOf
   put-full h = rw (lt-leb _ _ h)
@@ -40,7 +32,3 @@ module _ (d : List ℕ) (at : ℕ) (s : List ℕ) where
   pub end-fits : at + length s ≤ length d → putEnd d at s ≡ at + length s
   unfolding putEnd
   end-fits h = rw (le-leb _ _ h)
-
--- The place behind a text lies within the memory that came back.
-pub put-next : (l d : List ℕ) (at : ℕ) (s : List ℕ) (r : ℕ) → r ≡ putEnd d at s → length l ≡ length d → at ≤ length d → r ≤ length l
-put-next l d at s r e k h = rw (e, k) (put-within d at s h)

@@ -1,21 +1,25 @@
-use Rattle.hex.specs.Laws.{digit-past, digit-within, hexes-other, hexes-next, hexes-end}
+use Rattle.hex.specs.Laws.{higher-digit, same-digit, and-true, hexes-next, hexes-end}
 use Rattle.hex.specs.Pairs.{isPairs, hexes}
 use borrow.Author.Tests.{eq-eqb, ne-eqb}
 use borrow.Author.Needs.{needs}
+use lib.Dec.{ltb}
 use lib.ListN.{length, drop}
 use Prim.Native.Nat.{_≤_, _-_}
-use mathlib.Core.Path.{_≡_, sym, _∙_}
+use mathlib.Core.Bool.{_&&_}
+use mathlib.Core.Logic.{⊎-elim}
+use mathlib.Core.Path.{_≡_, sym, ap, _∙_}
 use native.Mathlib.Omega.{arith}
 use Rattle.hex.proofs.is_pairs.Statement.{statement}
 use Rattle.hex.proofs.is_pairs.Tie as tie
 
--- `hex::is_pairs` meets its contract. The invariant: the answer is that of the digits that are left.
+-- `hex::is_pairs` meets its contract. The invariant: the answer is that of the highest value so far and of the digits that
+-- are left.
 
 abbrev Inv-loop : tie.InvT-loop
-Inv-loop s i₀ i = (i ≤ length s) × (isPairs s ≡ hexes (drop i s))
+Inv-loop s highest₀ i₀ highest i = (i ≤ length s) × (isPairs s ≡ (ltb highest 16 && hexes (drop i s)))
 
 abbrev μ-loop : tie.MeasureT-loop
-μ-loop s i₀ i = length s - i
+μ-loop s highest₀ i₀ highest i = length s - i
 
 returns : tie.Need-returns Inv-loop μ-loop
 unfolding isPairs
@@ -31,11 +35,6 @@ shared-slice-read-hex-value c = omega arith
 hex-value-requires : tie.Need-hex-value-requires Inv-loop μ-loop
 hex-value-requires c κs = search needs
 
-returns-2 : tie.Need-returns-2 Inv-loop μ-loop
-returns-2 c =
-    let a = c .before .before .before .before in
-    sym (a .loop .inv .1 ∙ hexes-other _ (a .loop .i) (omega arith) (digit-past _ (rw (c .before .hex-value .ensures) at (c .if2 .taken))))
-
 add-i : tie.Need-add-i Inv-loop μ-loop
 add-i c = omega arith
 
@@ -45,12 +44,17 @@ loop-less c = omega arith
 loop-again : tie.Need-loop-again Inv-loop μ-loop
 loop-again c =
     let a = c .before .before .before .before in
-    (omega arith, a .loop .inv .1 ∙ hexes-next _ (a .loop .i) (omega arith) (digit-within _ (rw (c .before .hex-value .ensures) at (c .if2 .left))))
+    let e = a .loop .inv .1 ∙ ap (λ x. ltb (a .loop .highest) 16 && x) (hexes-next _ (a .loop .i) (omega arith)) in
+    let v = c .before .hex-value .ensures in
+    ⊎-elim
+    (λ w. (omega arith, rw (w .1, v) (e ∙ higher-digit _ _ _ (rw v at (w .0 .taken)))))
+    (λ w. (omega arith, rw (w .1) (e ∙ same-digit _ _ _ (rw v at (w .0 .left)))))
+    (c .if2 .came)
 
-returns-3 : tie.Need-returns-3 Inv-loop μ-loop
-returns-3 c =
+returns-2 : tie.Need-returns-2 Inv-loop μ-loop
+returns-2 c =
     let a = c .before in
-    sym (a .loop .inv .1 ∙ hexes-end _ (a .loop .i) (omega arith))
+    sym (a .loop .inv .1 ∙ ap (λ x. ltb (a .loop .highest) 16 && x) (hexes-end _ (a .loop .i) (omega arith)) ∙ and-true (ltb (a .loop .highest) 16))
 
 pub is-pairs-spec : {M : Type 1} → statement M
 is-pairs-spec =
@@ -62,8 +66,7 @@ is-pairs-spec =
     loop-holds
     shared-slice-read-hex-value
     hex-value-requires
-    returns-2
     add-i
     loop-less
     loop-again
-    returns-3)
+    returns-2)

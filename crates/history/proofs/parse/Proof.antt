@@ -68,7 +68,7 @@ returns c = let t = c .before .before in
     let u = r .before .before .before .before in
     let s = u .before .before .before .args in
     let e = rw (r .before .first .ensures) at (r .read .ensures) in
-    let l = line-timed (s .due) (s .asked) (length (s .bytes .now)) (s .brought) (s .line .now) (s .bytes .now) _ (u .until .ensures) _ refl _ (behind-is (s .line .now) (u .until .result)) _ (sym e ∙ g .before .before .before .time .given .1) in
+    let l = line-timed (length (s .bytes .now)) (s .line .now) (s .bytes .now) _ (u .until .ensures) _ refl _ (behind-is (s .line .now) (u .until .result)) _ (sym e ∙ g .before .before .before .time .given .1) in
     (rw (t .timed .ensures .0, g .before .of .ensures, g .behind .ensures) (l .0), rw (t .timed .ensures .1, g .before .of .ensures, g .behind .ensures) (l .1))
 
 returns-2 : tie.Need-returns-2
@@ -76,7 +76,7 @@ returns-2 c = let r = c .before .before .before in
     let u = r .before .before .before .before in
     let s = u .before .before .before .args in
     let e = rw (r .before .first .ensures) at (r .read .ensures) in
-    let l = line-untimed (s .due) (s .asked) (length (s .bytes .now)) (s .brought) (s .line .now) (s .bytes .now) _ (u .until .ensures) _ refl _ (behind-is (s .line .now) (u .until .result)) (sym e ∙ c .before .enum-told .given .1) in
+    let l = line-untimed (length (s .bytes .now)) (s .line .now) (s .bytes .now) _ (u .until .ensures) _ refl _ (behind-is (s .line .now) (u .until .result)) (sym e ∙ c .before .enum-told .given .1) in
     (rw (c .untimed .ensures) (l .0), l .1)
 
 pub parse-spec : {M : Type 1} → statement M

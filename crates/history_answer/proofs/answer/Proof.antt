@@ -1,6 +1,8 @@
 -- `history_answer::answer` meets its contract.
 use Rattle.writing.specs.Fill.{wrote-then}
 use Rattle.history_answer.specs.Texts.{answerText}
+use Rattle.obd2.specs.Core.{lent}
+use mathlib.Core.List.{[]}
 use borrow.Author.Needs.{needs}
 use Rattle.history_answer.proofs.answer.Statement.{statement}
 use Rattle.history_answer.proofs.answer.Tie as tie
@@ -9,7 +11,7 @@ said-requires : tie.Need-said-requires
 said-requires c κs = tt
 
 report-requires : tie.Need-report-requires
-report-requires c κs = tt
+report-requires c κs = search needs
 
 byte-requires : tie.Need-byte-requires
 byte-requires c κs = tt
@@ -23,7 +25,8 @@ returns c =
     let d = c .before .before in
     let b = d .before .before .before .before in
     let a = b .before .before .before .before .before in
-    let w = wrote-then (a .said .ensures) (wrote-then (b .report2 .ensures) (d .byte .ensures)) in
+    let s = a .before .before .before .before .args in
+    let w = wrote-then (a .said .ensures (lent [] [] [] [] (s .pids .now) (s .rates .now))) (wrote-then (b .report .ensures) (d .byte .ensures)) in
     (w .place-is, w .out-is)
 
 pub answer-spec : {M : Type 1} → statement M

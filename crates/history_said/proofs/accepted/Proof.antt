@@ -7,43 +7,43 @@ use Rattle.history_said.proofs.accepted.Tie as tie
 
 returns : tie.Need-returns
 unfolding acceptedText
-returns c = rw (c .before .before .before .before .before .enum-told .given .1) (c .before .before .put .ensures)
+returns c = λ x. rw (c .before .before .before .before .before .enum-told .given .1) (c .before .before .put .ensures)
 
 returns-2 : tie.Need-returns-2
 unfolding acceptedText
-returns-2 c = rw (c .before .before .before .before .enum-told2 .given .1) (c .before .before .done .ensures)
+returns-2 c = λ x. rw (c .before .before .before .before .enum-told2 .given .1) (c .before .before .done .ensures x)
 
 returns-3 : tie.Need-returns-3
 unfolding acceptedText
-returns-3 c = rw (c .before .before .before .before .before .before .said .given .1) (c .before .before .numbered .ensures)
+returns-3 c = λ x. rw (c .before .before .before .before .before .before .said .given .1) (c .before .before .numbered .ensures)
 
 returns-4 : tie.Need-returns-4
 unfolding acceptedText
-returns-4 c = rw (c .before .before .before .before .before .said2 .given .1) (c .before .before .asked .ensures)
+returns-4 c = λ x. rw (c .before .before .before .before .before .said2 .given .1) (c .before .before .asked .ensures)
 
 returns-5 : tie.Need-returns-5
 unfolding acceptedText
-returns-5 c = rw (c .before .before .before .before .before .said3 .given .1) (c .before .before .collected .ensures)
+returns-5 c = λ x. rw (c .before .before .before .before .before .said3 .given .1) (c .before .before .collected .ensures)
 
 returns-6 : tie.Need-returns-6
 unfolding acceptedText
-returns-6 c = rw (c .before .before .before .before .before .enum-told3 .given .1) (c .before .before .put2 .ensures)
+returns-6 c = λ x. rw (c .before .before .before .before .before .enum-told3 .given .1) (c .before .before .put2 .ensures)
 
 returns-7 : tie.Need-returns-7
 unfolding acceptedText
-returns-7 c = rw (c .before .before .before .before .before .said4 .given .1) (c .before .before .taken .ensures)
+returns-7 c = λ x. rw (c .before .before .before .before .before .said4 .given .1) (c .before .before .taken .ensures)
 
 returns-8 : tie.Need-returns-8
 unfolding acceptedText
-returns-8 c = rw (c .before .before .before .before .before .said5 .given .1) (c .before .before .connecting .ensures)
+returns-8 c = λ x. rw (c .before .before .before .before .before .said5 .given .1) (c .before .before .connecting .ensures)
 
 returns-9 : tie.Need-returns-9
 unfolding acceptedText
-returns-9 c = rw (c .before .before .before .before .before .said6 .given .1) (c .before .before .check .ensures)
+returns-9 c = λ x. rw (c .before .before .before .before .before .said6 .given .1) (c .before .before .check .ensures)
 
 returns-10 : tie.Need-returns-10
 unfolding acceptedText
-returns-10 c = rw (c .before .before .before .before .before .said7 .given .1) (c .before .before .step .ensures)
+returns-10 c = λ x. rw (c .before .before .before .before .before .said7 .given .1) (c .before .before .step .ensures)
 
 pub accepted-spec : {M : Type 1} → statement M
 accepted-spec =

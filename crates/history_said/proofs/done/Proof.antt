@@ -10,7 +10,7 @@ unfolding doneText
 returns c =
     let b = c .before .before in
     let a = b .before .before .before .before .before .before .before in
-    wrote-then (a .put .ensures) (b .values .ensures)
+    λ x. wrote-then (a .put .ensures) (b .values .ensures)
 
 pub done-spec : {M : Type 1} → statement M
 done-spec =

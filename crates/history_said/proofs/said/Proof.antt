@@ -7,11 +7,11 @@ use Rattle.history_said.proofs.said.Tie as tie
 
 returns : tie.Need-returns
 unfolding saidText
-returns c = rw (c .before .before .before .before .before .before .answer .given .1) (c .before .before .numbered .ensures)
+returns c = λ x. rw (c .before .before .before .before .before .before .answer .given .1) (c .before .before .numbered .ensures)
 
 returns-2 : tie.Need-returns-2
 unfolding saidText
-returns-2 c = rw (c .before .before .before .before .before .answer2 .given .1) (c .before .before .accepted .ensures)
+returns-2 c = λ x. rw (c .before .before .before .before .before .answer2 .given .1) (c .before .before .accepted .ensures x)
 
 pub said-spec : {M : Type 1} → statement M
 said-spec =

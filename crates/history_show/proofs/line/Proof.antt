@@ -1,23 +1,30 @@
 -- `history_show::line` meets its contract. The invariant: what is left of the line.
 use Rattle.writing.specs.Fill.{Left, left-all, left-next, left-last, wrote-then}
 use Rattle.history_show.specs.Texts.{messageText, lineText}
-use Rattle.history_show.specs.Laws.{line-next, line-end}
+use Rattle.history_show.specs.Laws.{slots-next, slots-end}
 use Rattle.writing_lists.specs.Parted.{parted}
 use Rattle.control_line.specs.Ring.{from}
+use Rattle.control_line.specs.Rows.{slotsOf, lineOf}
 use mathlib.Core.Bool.{false}
 use mathlib.Core.List.{map}
-use Prim.Native.Nat.{_≤_, _<_, _-_, _+_, min}
+use Prim.Native.Nat.{_≤_, _<_, _-_, _+_}
 use mathlib.Core.Path.{_≡_, refl, sym}
 use lib.ListN.{length}
 use native.Mathlib.Omega.{arith}
+use borrow.Author.Needs.{needs}
 use Rattle.history_show.proofs.line.Statement.{statement}
 use Rattle.history_show.proofs.line.Tie as tie
 
 abbrev Inv-loop : tie.InvT-loop
-Inv-loop out₀ at line n head place₀ more₀ i₀ out place more i = (i ≤ n) × (n ≡ min (line .count) 1024) × (head ≡ line .head) × (head < 65536) × (length out ≡ length out₀) × Left out₀ place₀ (parted false (map messageText (from (line .slots) head n))) out place (parted more (map messageText (from (line .slots) (head + i) (n - i))))
+Inv-loop out₀ at slots n head place₀ more₀ i₀ out place more i =
+    (i ≤ n)
+    × (n ≤ 1024)
+    × (head < 65536)
+    × (length out ≡ length out₀)
+    × Left out₀ place₀ (parted false (map messageText (from (slotsOf slots) head n))) out place (parted more (map messageText (from (slotsOf slots) (head + i) (n - i))))
 
 abbrev μ-loop : tie.MeasureT-loop
-μ-loop out₀ at line n head place₀ more₀ i₀ out place more i = n - i
+μ-loop out₀ at slots n head place₀ more₀ i₀ out place more i = n - i
 
 waiting-requires : tie.Need-waiting-requires Inv-loop μ-loop
 waiting-requires c κs = tt
@@ -30,21 +37,31 @@ byte-requires c κs = tt
 
 loop-holds : tie.Need-loop-holds Inv-loop μ-loop
 loop-holds c =
-    let a = c .before .before .before .before in
-    let l = a .before .before .args .t3 in
+    let a = c .before .before .before .before .before in
+    let h = a .before .before .args .ends .head in
     let n = a .waiting .result in
-    let y : l .head + 0 ≡ l .head = omega arith in
+    let w = a .waiting .ensures in
+    let y : h + 0 ≡ h = omega arith in
     let z : n - 0 ≡ n = omega arith in
-    (omega arith, a .waiting .ensures, refl, omega arith, omega arith, rw (y, z) (left-all _ _ _))
+    (omega arith, omega arith, omega arith, omega arith, rw (y, z) (left-all _ _ _))
 
-add-slot : tie.Need-add-slot Inv-loop μ-loop
-add-slot c = omega arith
+add-row : tie.Need-add-row Inv-loop μ-loop
+add-row c = omega arith
 
-mul-slot : tie.Need-mul-slot Inv-loop μ-loop
-mul-slot c = omega arith
+mul-row : tie.Need-mul-row Inv-loop μ-loop
+mul-row c = omega arith
 
-element-copy-out-slot : tie.Need-element-copy-out-slot Inv-loop μ-loop
-element-copy-out-slot c = omega arith
+element-copy-out-row : tie.Need-element-copy-out-row Inv-loop μ-loop
+element-copy-out-row c = omega arith
+
+array-read-message-in : tie.Need-array-read-message-in Inv-loop μ-loop
+array-read-message-in c = search needs
+
+array-read-message-in-2 : tie.Need-array-read-message-in-2 Inv-loop μ-loop
+array-read-message-in-2 c = search needs
+
+message-in-requires : tie.Need-message-in-requires Inv-loop μ-loop
+message-in-requires c κs = tt
 
 comma-requires : tie.Need-comma-requires Inv-loop μ-loop
 comma-requires c κs = tt
@@ -62,10 +79,12 @@ loop-again : tie.Need-loop-again Inv-loop μ-loop
 loop-again c =
     let d = c .before .before in
     let b = d .before .before .before .before in
-    let a = b .before .before .before .before in
+    let e = b .before .before in
+    let a = e .before .before .before in
+    let s = a .before .before .before .before .before .before .before .before in
     let inv = a .loop .inv in
-    let l = left-next (inv .5) (line-next (a .before .before .before .before .before .before .before .args .t3 .slots) _ _ (a .loop .more) (a .loop .i) (omega arith)) (b .comma .ensures) in
-    (omega arith, inv .1, inv .2, inv .3, omega arith, left-next l refl (d .message .ensures))
+    let l = left-next (inv .4) (slots-next (s .args .slots .now) _ _ (a .loop .more) (a .loop .i) (omega arith)) (b .comma .ensures) in
+    (omega arith, inv .1, inv .2, omega arith, left-next l refl (rw (e .message-in .ensures) at (d .message .ensures)))
 
 none-requires : tie.Need-none-requires Inv-loop μ-loop
 none-requires c κs = tt
@@ -74,13 +93,15 @@ same-length : tie.Need-same-length Inv-loop μ-loop
 same-length c = omega arith
 
 returns : tie.Need-returns Inv-loop μ-loop
-unfolding lineText
+unfolding lineText lineOf
 returns c =
     let b = c .before .before in
     let a = b .before .before .before in
+    let w = a .before .before .before .before .before .before in
+    let s = w .before .before in
     let inv = a .loop .inv in
-    let l = left-last (inv .5) (line-end (a .before .before .before .before .before .before .before .args .t3 .slots) _ _ (a .loop .more) (a .loop .i) (omega arith)) (b .none .ensures) in
-    rw (sym (inv .1)) (wrote-then (a .before .before .before .byte .ensures) l)
+    let l = left-last (inv .4) (slots-end (s .args .slots .now) _ _ (a .loop .more) (a .loop .i) (omega arith)) (b .none .ensures) in
+    rw (sym (w .waiting .ensures)) (wrote-then (a .before .before .before .byte .ensures) l)
 
 pub line-spec : {M : Type 1} → statement M
 line-spec =
@@ -92,9 +113,12 @@ line-spec =
     cast-head
     byte-requires
     loop-holds
-    add-slot
-    mul-slot
-    element-copy-out-slot
+    add-row
+    mul-row
+    element-copy-out-row
+    array-read-message-in
+    array-read-message-in-2
+    message-in-requires
     comma-requires
     message-requires
     add-i

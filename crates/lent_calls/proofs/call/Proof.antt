@@ -66,10 +66,10 @@ use Rattle.profile_list.proofs.copied as copied
 use Rattle.profile_list.proofs.copied.Symbol as copied-def
 use Rattle.profile_list.proofs.copied.Symbol.{name as #copied}
 use Rattle.profile_list.proofs.copied.Met as copied-thm
-use Rattle.dispatch.proofs.call as over
-use Rattle.dispatch.proofs.call.Symbol as over-def
-use Rattle.dispatch.proofs.call.Symbol.{name as #over}
-use Rattle.dispatch.proofs.call.Met as over-thm
+use Rattle.by_value.proofs.call as over
+use Rattle.by_value.proofs.call.Symbol as over-def
+use Rattle.by_value.proofs.call.Symbol.{name as #over}
+use Rattle.by_value.proofs.call.Met as over-thm
 use Rattle.lent_calls.specs.Bringing.{bringing}
 use Rattle.walks.proofs.Steps.{told, says3}
 use Rattle.lent_calls.proofs.bringing as brings
@@ -334,4 +334,4 @@ call-spec 𝓤 H 𝓜 𝓖 𝓡 =
     (call-meets 𝓤 H (𝓖 .A) (givenOf 𝓤 H 𝓜 𝓖) (𝓜 .mem) (𝓡 .run) (tablesOf 𝓤 H 𝓜 (tables 𝓤 H 𝓜 𝓡 code.env))
     (cited 𝓤 H (Copied 𝓤 H (𝓖 .A) (𝓜 .mem) (𝓡 .run)) 𝓜 𝓡 code.env #copied copied-def.routine code.calls-profile-list·copied (copied-thm.met 𝓤 H 𝓜 𝓖 𝓡))
     (cited 𝓤 H (Brings 𝓤 H (𝓖 .A) (𝓜 .mem) (𝓡 .run)) 𝓜 𝓡 code.env #brings brings-def.routine code.calls-lent-calls·bringing (brings-thm.met 𝓤 H 𝓜 𝓖 𝓡))
-    (cited 𝓤 H (Over 𝓤 H (𝓖 .A) (𝓜 .mem) (𝓡 .run)) 𝓜 𝓡 code.env #over over-def.routine code.calls-dispatch·call (over-thm.met 𝓤 H 𝓜 𝓖 𝓡)))
+    (cited 𝓤 H (Over 𝓤 H (𝓖 .A) (𝓜 .mem) (𝓡 .run)) 𝓜 𝓡 code.env #over over-def.routine code.calls-by-value·call (over-thm.met 𝓤 H 𝓜 𝓖 𝓡)))

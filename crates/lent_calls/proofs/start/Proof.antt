@@ -59,10 +59,10 @@ use Rattle.profile_list.proofs.copied as copied
 use Rattle.profile_list.proofs.copied.Symbol as copied-def
 use Rattle.profile_list.proofs.copied.Symbol.{name as #copied}
 use Rattle.profile_list.proofs.copied.Met as copied-thm
-use Rattle.setup_calls.proofs.start as over
-use Rattle.setup_calls.proofs.start.Symbol as over-def
-use Rattle.setup_calls.proofs.start.Symbol.{name as #over}
-use Rattle.setup_calls.proofs.start.Met as over-thm
+use Rattle.by_value.proofs.start as over
+use Rattle.by_value.proofs.start.Symbol as over-def
+use Rattle.by_value.proofs.start.Symbol.{name as #over}
+use Rattle.by_value.proofs.start.Met as over-thm
 use Rattle.walks.proofs.Steps.{told, told2, says2}
 use Rattle.lent_calls.proofs.start.Key.{name as #start}
 use Rattle.lent_calls.proofs.start as start
@@ -209,4 +209,4 @@ start-spec 𝓤 H 𝓜 𝓖 𝓡 =
     (tables 𝓤 H 𝓜 𝓡 code.env .C) (tables 𝓤 H 𝓜 𝓡 code.env .Λ) #start code.function (code.unfolded 𝓤 H 𝓜 𝓡)
     (start-meets 𝓤 H (𝓖 .A) (givenOf 𝓤 H 𝓜 𝓖) (𝓜 .mem) (𝓡 .run) (tablesOf 𝓤 H 𝓜 (tables 𝓤 H 𝓜 𝓡 code.env))
     (cited 𝓤 H (Copied 𝓤 H (𝓖 .A) (𝓜 .mem) (𝓡 .run)) 𝓜 𝓡 code.env #copied copied-def.routine code.calls-profile-list·copied (copied-thm.met 𝓤 H 𝓜 𝓖 𝓡))
-    (cited 𝓤 H (Over 𝓤 H (𝓖 .A) (𝓜 .mem) (𝓡 .run)) 𝓜 𝓡 code.env #over over-def.routine code.calls-setup-calls·start (over-thm.met 𝓤 H 𝓜 𝓖 𝓡)))
+    (cited 𝓤 H (Over 𝓤 H (𝓖 .A) (𝓜 .mem) (𝓡 .run)) 𝓜 𝓡 code.env #over over-def.routine code.calls-by-value·start (over-thm.met 𝓤 H 𝓜 𝓖 𝓡)))

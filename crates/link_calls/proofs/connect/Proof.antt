@@ -1,39 +1,41 @@
 use mathlib.Core.List.{[]}
 use mathlib.Core.Path.{refl, sym, _∙_}
 use Rattle.obd2.specs.Answers.{settled-here, settled-next, settled-none}
+use Rattle.obd2.specs.Core.{boxOf, refused-is}
 use Rattle.obd2.specs.Done.{linkBy, doneOf}
 use Rattle.obd2.specs.History.{inTime}
 use Rattle.obd2.specs.Refusals.{linkRows, rowsOf, rowRefusal}
+use Rattle.report.specs.Summary.{none-in}
 use borrow.Author.Needs.{needs}
 use Rattle.link_calls.proofs.connect.Statement.{statement}
 use Rattle.link_calls.proofs.connect.Tie as tie
 
 returns : tie.Need-returns
 unfolding inTime rowRefusal rowsOf linkRows
-returns c =
+returns c = λ x.
     let g = c .before in
     let a = g .before .before .before .args in
-    settled-here (a .state) _ 3 _ (sym (g .before .any-over .ensures) ∙ g .if1 .taken) refl (c .refuse .ensures)
+    settled-here (boxOf x (a .core)) _ 3 _ (sym (g .before .any-over .ensures) ∙ g .if1 .taken) refl (refused-is x (a .core) _ 3 (c .refuse .ensures))
 
 returns-2 : tie.Need-returns-2
 unfolding inTime rowRefusal rowsOf linkRows
-returns-2 c =
+returns-2 c = λ x.
     let k = c .before in
     let g = k .before .before .before .before in
     let a = g .before .before .before .args in
-    settled-next (a .state) _ 3 _ (sym (g .before .any-over .ensures) ∙ g .if1 .left)
-    (settled-here (a .state) _ 12 [] (sym (k .before .open .ensures) ∙ k .if2 .taken) refl (c .refuse2 .ensures))
+    settled-next (boxOf x (a .core)) _ 3 _ (sym (g .before .any-over .ensures) ∙ g .if1 .left)
+    (settled-here (boxOf x (a .core)) _ 12 [] (sym (k .before .open .ensures) ∙ k .if2 .taken) refl (refused-is x (a .core) _ 12 (c .refuse2 .ensures)))
 
 returns-3 : tie.Need-returns-3
 unfolding inTime rowRefusal rowsOf linkRows doneOf linkBy
-returns-3 c =
+returns-3 c = λ x.
     let l = c .before .before .before in
     let k = l .before in
     let g = k .before .before .before .before in
     let a = g .before .before .before .args in
-    settled-next (a .state) _ 3 _ (sym (g .before .any-over .ensures) ∙ g .if1 .left)
-    (settled-next (a .state) _ 12 [] (sym (k .before .open .ensures) ∙ k .if2 .left)
-    (settled-none (a .state) _ (rw (c .accept .ensures, c .before .no-details .ensures, l .connect .ensures))))
+    settled-next (boxOf x (a .core)) _ 3 _ (sym (g .before .any-over .ensures) ∙ g .if1 .left)
+    (settled-next (boxOf x (a .core)) _ 12 [] (sym (k .before .open .ensures) ∙ k .if2 .left)
+    (settled-none (boxOf x (a .core)) _ (rw (c .accept .ensures, c .before .no-notes .ensures, none-in (x .pids) (x .rates), l .connect .ensures))))
 
 pub connect-spec : {M : Type 1} → statement M
 connect-spec = tie.close (tie.spec (λ c κs. search needs) (λ c κs. search needs) returns (λ c κs. search needs) (λ c κs. search needs) returns-2 (λ c κs. search needs) (λ c κs. search needs) (λ c κs. search needs) returns-3)

@@ -2,28 +2,30 @@ use mathlib.Core.Bool.{not}
 use mathlib.Core.List.{[]}
 use mathlib.Core.Path.{refl, sym, ap, _∙_}
 use Rattle.obd2.specs.Answers.{settled-here, settled-next, settled-none}
+use Rattle.obd2.specs.Core.{boxOf, refused-is}
 use Rattle.obd2.specs.Done.{roundBy, doneOf}
 use Rattle.obd2.specs.History.{inTime}
 use Rattle.obd2.specs.Refusals.{roundRows, rowsOf, rowRefusal}
+use Rattle.report.specs.Summary.{none-in}
 use borrow.Author.Needs.{needs}
 use Rattle.round_calls.proofs.result.Statement.{statement}
 use Rattle.round_calls.proofs.result.Tie as tie
 
 returns : tie.Need-returns
 unfolding inTime rowRefusal rowsOf roundRows
-returns c =
+returns c = λ x.
     let g = c .before in
     let a = g .before .before .before .before .args in
-    settled-here (a .state) _ 13 [] (ap not (sym (g .before .due .ensures)) ∙ g .if1 .taken) refl (c .refuse .ensures)
+    settled-here (boxOf x (a .core)) _ 13 [] (ap not (sym (g .before .due .ensures)) ∙ g .if1 .taken) refl (refused-is x (a .core) _ 13 (c .refuse .ensures))
 
 returns-2 : tie.Need-returns-2
 unfolding inTime rowRefusal rowsOf roundRows doneOf roundBy
-returns-2 c =
+returns-2 c = λ x.
     let b = c .before .before in
     let g = b .before in
     let a = g .before .before .before .before .args in
-    settled-next (a .state) _ 13 [] (ap not (sym (g .before .due .ensures)) ∙ g .if1 .left)
-    (settled-none (a .state) _ (rw (c .accept .ensures, c .before .no-details .ensures, b .result .ensures)))
+    settled-next (boxOf x (a .core)) _ 13 [] (ap not (sym (g .before .due .ensures)) ∙ g .if1 .left)
+    (settled-none (boxOf x (a .core)) _ (rw (c .accept .ensures, c .before .no-notes .ensures, none-in (x .pids) (x .rates), b .result .ensures)))
 
 pub result-spec : {M : Type 1} → statement M
 result-spec = tie.close (tie.spec (λ c κs. search needs) (λ c κs. search needs) returns (λ c κs. search needs) (λ c κs. search needs) (λ c κs. search needs) returns-2)

@@ -1,37 +1,57 @@
-use Rattle.obd2.specs.State.{started}
+use Rattle.setup_calls.specs.Cases.{started-is}
 use borrow.Author.Needs.{needs}
 use Rattle.setup_calls.proofs.started.Statement.{statement}
 use Rattle.setup_calls.proofs.started.Tie as tie
+use Rattle.setup_calls.proofs.started.Reads as reads
+use Rattle.setup_calls.proofs.started.Lts as lts
+use Rattle.control_line.proofs.places.clear.Reads as clear-reads
+use Rattle.control_line.proofs.places.push_all.Reads as push-all-reads
+use Rattle.desk.proofs.core.start.Reads as core-start-reads
+use Rattle.manager.proofs.rows.start.Reads as rows-start-reads
+use Rattle.poller.proofs.new.Reads as new-reads
 
+-- src/lib.rt:48:9
 start-requires : tie.Need-start-requires
 start-requires c κs = search needs
 
-empty-requires : tie.Need-empty-requires
-empty-requires c κs = search needs
+-- src/lib.rt:51:9
+clear-requires : tie.Need-clear-requires
+clear-requires c κs = search needs
 
+-- src/lib.rt:52:9
 push-all-requires : tie.Need-push-all-requires
 push-all-requires c κs = search needs
 
+-- src/lib.rt:53:9
+start-requires-2 : tie.Need-start-requires-2
+start-requires-2 c κs = search needs
+
+-- src/lib.rt:54:9
 new-requires : tie.Need-new-requires
 new-requires c κs = search needs
 
-new-requires-2 : tie.Need-new-requires-2
-new-requires-2 c κs = search needs
-
+-- src/lib.rt:30:1
 returns : tie.Need-returns
-unfolding started
 returns c =
-    let d = c .before .before in
-    let k = d .before .before .before .before in
-    rw (c .new2 .ensures, c .before .new .ensures, d .push-all .ensures, d .before .empty .ensures, k .start .ensures)
+    let d = c .before in
+    let l = d .before .before .before in
+    let k = l .before .before .before .before .before .before in
+    let a = k .before .before .args in (
+      d .start2 .ensures .0,
+      (
+        k .start .ensures .0,
+        λ pids rates.
+            started-is (a .time) (a .settings) (a .profiles) _ (d .start2 .result) (k .start .result) (c .new .result) (l .push-all .result) _ (d .start2 .ensures .1) (k .start .ensures .1 .1 pids rates) (l .before .before .clear .ensures) (l .push-all .ensures) (c .new .ensures),
+      ),
+    )
 
 pub started-spec : {M : Type 1} → statement M
 started-spec =
     tie.close
     (tie.spec
     start-requires
-    empty-requires
+    clear-requires
     push-all-requires
+    start-requires-2
     new-requires
-    new-requires-2
     returns)

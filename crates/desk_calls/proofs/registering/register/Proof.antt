@@ -1,52 +1,173 @@
-use mathlib.Core.Path.{_≡_, ap, sym, _∙_}
-use Rattle.base.specs.Refusal.{firstOf}
-use Rattle.desk.specs.Laws.{register-refusal}
-use Rattle.desk.specs.Rules.{registerRefusal, registerOf}
-use Rattle.desk.specs.declared.Registered.{Registered}
-use Rattle.manager_calls.specs.Settle.{sent-refused, sent-done, own-refused, own-settled}
+use mathlib.Core.Path.{_≡_, refl, ap, sym, _∙_}
+use lib.ListN.{length}
+use Rattle.clients.specs.Rules.{places}
+use Rattle.control_line.specs.Rows.{lineOf}
+use Rattle.manager.specs.Rows.{managerOf}
+use Rattle.manager.specs.declared.Event.the-variants.{Nothing}
+use Rattle.manager_calls.specs.Send.{back-manager, back-line, back-report, no-ran}
+use Rattle.manager_calls.specs.Settle.{sent-refused, sent-done, handed-back, own-refused, own-settled}
+use Rattle.desk.specs.declared.Desk.{Desk}
+use Rattle.desk_calls.specs.Desk.{register-told, registered-desk, registered-given}
 use Rattle.obd2.specs.Call.{Register}
+use Rattle.obd2.specs.Core.{lent, boxOf, refused-is}
 use Rattle.obd2.specs.Done.{managerBy}
-use Rattle.obd2.specs.Refusals.{managerRows}
-use Rattle.obd2.specs.declared.State.{State}
+use Rattle.passes.specs.declared.Terms.{Terms}
+use Rattle.report.specs.declared.summary.Summary.{Summary}
 use borrow.Author.Needs.{needs}
 use Rattle.desk_calls.proofs.registering.register.Statement.{statement}
 use Rattle.desk_calls.proofs.registering.register.Tie as tie
+use Rattle.desk_calls.proofs.registering.register.Reads as reads
+use Rattle.desk_calls.proofs.registering.register.Lts as lts
+use Rattle.desk.proofs.core.refusal.Reads as refusal-reads
+use Rattle.desk.proofs.core.register.Reads as register-reads
+use Rattle.manager_calls.proofs.send.Reads as send-reads
+use Rattle.obd2.proofs.telling.accept.Reads as accept-reads
+use Rattle.obd2.proofs.telling.refuse.Reads as refuse-reads
+use Rattle.obd2.proofs.telling.reporting.Reads as reporting-reads
 
--- What the desk refuses by is what the call's own rows give.
-told : (s : State) (g : Registered) → g ≡ registerOf (s .desk) → g .refusal ≡ firstOf (managerRows s Register)
-unfolding managerRows registerRefusal
-told s g f = ap (λ (x : Registered). x .refusal) f ∙ register-refusal (s .desk)
+-- src/registering.rt:41:9
+refusal-requires : tie.Need-refusal-requires
+refusal-requires c κs = search needs
 
+-- src/registering.rt:43:9
+refuse-requires : tie.Need-refuse-requires
+refuse-requires c κs = search needs
+
+-- src/registering.rt:43:9
 returns : tie.Need-returns
 returns c =
-    let k = c .before in
-    let w = k .before .before in
-    let a = w .before .before .args in
-    own-refused (a .state) (a .time) Register (w .register .result .refusal) (told (a .state) (w .register .result) (w .register .ensures)) (k .if1 .taken) (c .refuse .ensures)
+    let w = c .before .before in
+    let a = w .before .before .args in (
+      search needs,
+      (
+        search needs,
+        (
+          search needs,
+          (
+            search needs,
+            (
+              λ z. refl,
+              (
+                λ z. refl,
+                λ replies.
+                    let x = lent replies (a .marks .now) (a .table .now) (a .slots .now) (a .pids .now) (a .rates .now) in
+                    let s = boxOf x (a .core) in
+                    own-refused s (a .time) Register (w .refusal .result) (register-told s _ (w .refusal .ensures replies (a .marks .now))) (c .before .if1 .taken) (refused-is x (a .core) (c .refuse .result) _ (c .refuse .ensures)),
+              ),
+            ),
+          ),
+        ),
+      ),
+    )
 
+-- src/registering.rt:54:9
+send-requires : tie.Need-send-requires
+send-requires c κs = search needs
+
+-- src/registering.rt:60:9
+refuse-requires-2 : tie.Need-refuse-requires-2
+refuse-requires-2 c κs = search needs
+
+-- src/registering.rt:60:9
 returns-2 : tie.Need-returns-2
 unfolding managerBy
 returns-2 c =
-    let g = c .before in
-    let x = g .before in
-    let k = x .before .before .before .before .before in
-    let w = k .before .before in
-    let a = w .before .before .args in
-    own-settled (a .state) (a .time) Register (w .register .result .refusal) (told (a .state) (w .register .result) (w .register .ensures)) (k .if1 .left)
-    (sent-refused (a .state) (a .time) (managerBy (a .state) Register) (x .send .result) (x .send .ensures) (g .if2 .taken) (c .refuse2 .ensures))
+    let w = c .before .before .before .before in
+    let g = w .before .before .before .before .before .before .before .before .before in
+    let a = g .before .before .before .args in
+    let k = a .core in
+    let n = g .before .refusal in
+    let e = w .send .ensures in
+    let t : Terms = record { profiles = k .profiles; settings = k .settings; now = a .time } in
+    let q = e .1 .1 .1 .1 .1 in
+    let h = c .before .if2 .taken in
+    let z = no-ran _ _ _ (back-report (managerOf (a .table .now) (k .manager)) (lineOf (a .slots .now) (k .line)) t Nothing _ q h) in (
+      search needs,
+      (
+        e .0,
+        (
+          e .1 .0,
+          (
+            e .1 .1 .0,
+            (
+              λ y. e .1 .1 .1 .0 z,
+              (
+                λ y. e .1 .1 .1 .1 .0 z,
+                λ replies.
+                    let x = lent replies (a .marks .now) (a .table .now) (a .slots .now) (a .pids .now) (a .rates .now) in
+                    let s = boxOf x k in
+                    own-settled s (a .time) Register (n .result) (register-told s _ (n .ensures replies (a .marks .now))) (g .if1 .left)
+                    (sent-refused s (a .time) (managerBy s Register) _ q h
+                    (handed-back x (lent replies (a .marks .now) (w .send .last .0) (w .send .last .1 .0) (w .send .last .1 .1 .0) (w .send .last .1 .1 .1 .0)) k (w .send .result .manager) (w .send .result .line) 15 (c .refuse2 .result) refl (back-manager _ _ t Nothing _ q h) (back-line _ _ t Nothing _ q h) (c .refuse2 .ensures))),
+              ),
+            ),
+          ),
+        ),
+      ),
+    )
 
+-- src/registering.rt:62:9
+register-requires : tie.Need-register-requires
+register-requires c κs = search needs
+
+-- src/registering.rt:65:9
+reporting-requires : tie.Need-reporting-requires
+reporting-requires c κs = search needs
+
+-- src/registering.rt:66:5
+accept-requires : tie.Need-accept-requires
+accept-requires c κs = search needs
+
+-- src/registering.rt:19:1
 returns-3 : tie.Need-returns-3
-unfolding managerBy registerOf
+unfolding managerBy
 returns-3 c =
-    let g = c .before .before .before .before .before .before in
-    let x = g .before in
-    let k = x .before .before .before .before .before in
-    let w = k .before .before in
-    let a = w .before .before .args in
-    let z = sym (ap (λ (x : Registered). x .refusal) (w .register .ensures) ∙ register-refusal (a .state .desk)) ∙ k .if1 .left in
-    own-settled (a .state) (a .time) Register (w .register .result .refusal) (told (a .state) (w .register .result) (w .register .ensures)) (k .if1 .left)
-    (sent-done (a .state) (a .time) (managerBy (a .state) Register) (x .send .result) (x .send .ensures) (g .if2 .left)
-    (rw (c .accept .ensures, c .before .reporting .ensures, w .register .ensures, z)))
+    let d = c .before .before .before in
+    let o = d .before .before in
+    let w = o .before .before .before in
+    let g = w .before .before .before .before .before .before .before .before .before in
+    let a = g .before .before .before .args in
+    let k = a .core in
+    let n = g .before .refusal in
+    let e = w .send .ensures in
+    let f : c .accept .result .notes .summary ≡ w .send .result .summary = rw (c .accept .ensures, c .before .reporting .ensures) in (
+      d .register .ensures .0,
+      (
+        e .0,
+        (
+          e .1 .0,
+          (
+            e .1 .1 .0,
+            (
+              λ y. e .1 .1 .1 .0 (ap (λ (u : Summary). u .ran) (sym f) ∙ y),
+              (
+                λ y. e .1 .1 .1 .1 .0 (ap (λ (u : Summary). u .ran) (sym f) ∙ y),
+                λ replies.
+                    let x = lent replies (a .marks .now) (a .table .now) (a .slots .now) (a .pids .now) (a .rates .now) in
+                    let s = boxOf x k in
+                    let z = sym (n .ensures replies (a .marks .now)) ∙ g .if1 .left in
+                    let r = d .register .ensures .1 replies in
+                    own-settled s (a .time) Register (n .result) (register-told s _ (n .ensures replies (a .marks .now))) (g .if1 .left)
+                    (sent-done s (a .time) (managerBy s Register) _ (e .1 .1 .1 .1 .1) (o .if2 .left)
+                    (rw (c .accept .ensures, c .before .reporting .ensures, r ∙ registered-desk (s .desk) z, ap (λ (y : Desk). y .given) r ∙ registered-given (s .desk) z))),
+              ),
+            ),
+          ),
+        ),
+      ),
+    )
 
 pub register-spec : {M : Type 1} → statement M
-register-spec = tie.close (tie.spec (λ c κs. search needs) (λ c κs. search needs) returns (λ c κs. search needs) (λ c κs. search needs) returns-2 (λ c κs. search needs) (λ c κs. search needs) returns-3)
+register-spec =
+    tie.close
+    (tie.spec
+    refusal-requires
+    refuse-requires
+    returns
+    send-requires
+    refuse-requires-2
+    returns-2
+    register-requires
+    reporting-requires
+    accept-requires
+    returns-3)

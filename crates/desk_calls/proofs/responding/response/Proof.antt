@@ -1,52 +1,174 @@
-use mathlib.Core.Path.{_≡_, ap, _∙_}
-use Rattle.base.specs.Refusal.{firstOf}
-use Rattle.delivery.specs.Laws.{response-refusal}
-use Rattle.delivery.specs.Rules.{responseRefusal, responseOf}
-use Rattle.delivery.specs.declared.Answered.{Answered as Delivered}
-use Rattle.manager_calls.specs.Settle.{sent-refused, sent-done, own-refused, own-settled}
+use mathlib.Core.Path.{_≡_, refl, ap, sym, _∙_}
+use lib.ListN.{length}
+use Rattle.clients.specs.Rules.{places}
+use Rattle.control_line.specs.Rows.{lineOf}
+use Rattle.manager.specs.Rows.{managerOf}
+use Rattle.manager.specs.declared.Event.the-variants.{Nothing}
+use Rattle.manager_calls.specs.Send.{back-manager, back-line, back-report, no-ran}
+use Rattle.manager_calls.specs.Settle.{sent-refused, sent-done, handed-back, own-refused, own-settled}
+use Rattle.delivery.specs.Storing.{evaluated-stored}
+use Rattle.delivery.specs.declared.evaluation.Evaluated.{Evaluated}
+use Rattle.desk_calls.specs.Desk.{response-told, responded}
 use Rattle.obd2.specs.Call.{Respond}
+use Rattle.obd2.specs.Core.{lent, boxOf, refused-is}
 use Rattle.obd2.specs.Done.{managerBy}
-use Rattle.obd2.specs.Refusals.{managerRows}
-use Rattle.obd2.specs.declared.State.{State}
-use Rattle.reply.specs.declared.Response.{Response}
+use Rattle.passes.specs.declared.Terms.{Terms}
+use Rattle.report.specs.declared.summary.Summary.{Summary}
 use borrow.Author.Needs.{needs}
 use Rattle.desk_calls.proofs.responding.response.Statement.{statement}
 use Rattle.desk_calls.proofs.responding.response.Tie as tie
+use Rattle.desk_calls.proofs.responding.response.Reads as reads
+use Rattle.desk_calls.proofs.responding.response.Lts as lts
+use Rattle.delivery.proofs.evaluation.evaluate.Reads as evaluate-reads
+use Rattle.delivery.proofs.storing.store.Reads as store-reads
+use Rattle.manager_calls.proofs.send.Reads as send-reads
+use Rattle.obd2.proofs.telling.accept.Reads as accept-reads
+use Rattle.obd2.proofs.telling.delivering.Reads as delivering-reads
+use Rattle.obd2.proofs.telling.refuse.Reads as refuse-reads
 
--- What the delivery refuses by is what the call's own rows give.
-told : (s : State) (r : Response) (g : Delivered) → g ≡ responseOf (s .desk) (s .profiles) r → g .refusal ≡ firstOf (managerRows s (Respond r))
-unfolding managerRows responseRefusal
-told s r g f = ap (λ (x : Delivered). x .refusal) f ∙ response-refusal (s .desk) (s .profiles) r
+-- src/responding.rt:46:9
+evaluate-requires : tie.Need-evaluate-requires
+evaluate-requires c κs = search needs
 
+-- src/responding.rt:48:9
+refuse-requires : tie.Need-refuse-requires
+refuse-requires c κs = search needs
+
+-- src/responding.rt:48:9
 returns : tie.Need-returns
 returns c =
-    let k = c .before in
-    let w = k .before .before in
-    let a = w .before .before .before .args in
-    own-refused (a .state) (a .time) (Respond (a .response)) (w .response .result .refusal) (told (a .state) (a .response) (w .response .result) (w .response .ensures)) (k .if1 .taken) (c .refuse .ensures)
+    let v = c .before .before .before in
+    let b = v .before .before .before .before in
+    let a = b .args in
+    let x = lent (a .replies .now) (a .marks .now) (a .table .now) (a .slots .now) (a .pids .now) (a .rates .now) in
+    let s = boxOf x (a .core) in
+    let n = ap (λ (y : Evaluated). y .refusal) (v .evaluate .ensures (s .desk) refl) in (
+      b .pre .0,
+      (
+        b .pre .1 .0,
+        (
+          b .pre .1 .1 .0,
+          (
+            b .pre .1 .1 .1,
+            (
+              λ z. refl,
+              (
+                λ z. refl,
+                own-refused s (a .time) (Respond (a .response)) (v .evaluate .result .refusal) (response-told s (a .response) _ n) (c .before .if1 .taken) (refused-is x (a .core) (c .refuse .result) _ (c .refuse .ensures)),
+              ),
+            ),
+          ),
+        ),
+      ),
+    )
 
+-- src/responding.rt:59:9
+send-requires : tie.Need-send-requires
+send-requires c κs = search needs
+
+-- src/responding.rt:65:9
+refuse-requires-2 : tie.Need-refuse-requires-2
+refuse-requires-2 c κs = search needs
+
+-- src/responding.rt:65:9
 returns-2 : tie.Need-returns-2
 unfolding managerBy
 returns-2 c =
-    let g = c .before in
-    let x = g .before in
-    let k = x .before .before .before .before .before in
-    let w = k .before .before in
-    let a = w .before .before .before .args in
-    own-settled (a .state) (a .time) (Respond (a .response)) (w .response .result .refusal) (told (a .state) (a .response) (w .response .result) (w .response .ensures)) (k .if1 .left)
-    (sent-refused (a .state) (a .time) (managerBy (a .state) (Respond (a .response))) (x .send .result) (rw (← (w .response .ensures)) (x .send .ensures)) (g .if2 .taken) (c .refuse2 .ensures))
+    let w = c .before .before .before .before in
+    let g = w .before .before .before .before .before .before .before .before .before in
+    let v = g .before .before in
+    let a = v .before .before .before .before .args in
+    let k = a .core in
+    let x = lent (a .replies .now) (a .marks .now) (a .table .now) (a .slots .now) (a .pids .now) (a .rates .now) in
+    let s = boxOf x k in
+    let m = v .evaluate .ensures (s .desk) refl in
+    let e = w .send .ensures in
+    let t : Terms = record { profiles = v .evaluate .result .profiles; settings = k .settings; now = a .time } in
+    let q = e .1 .1 .1 .1 .1 in
+    let h = c .before .if2 .taken in
+    let z = no-ran _ _ _ (back-report (managerOf (a .table .now) (k .manager)) (lineOf (a .slots .now) (k .line)) t Nothing _ q h) in (
+      v .before .before .before .before .pre .0,
+      (
+        e .0,
+        (
+          e .1 .0,
+          (
+            e .1 .1 .0,
+            (
+              λ y. e .1 .1 .1 .0 z,
+              (
+                λ y. e .1 .1 .1 .1 .0 z,
+                own-settled s (a .time) (Respond (a .response)) (v .evaluate .result .refusal) (response-told s (a .response) _ (ap (λ (y : Evaluated). y .refusal) m)) (g .if1 .left)
+                    (sent-refused s (a .time) (managerBy s (Respond (a .response))) _ (rw (ap (λ (y : Evaluated). y .profiles) m) at q) h
+                    (handed-back x (lent (a .replies .now) (a .marks .now) (w .send .last .0) (w .send .last .1 .0) (w .send .last .1 .1 .0) (w .send .last .1 .1 .1 .0)) k (w .send .result .manager) (w .send .result .line) 15 (c .refuse2 .result) refl (back-manager _ _ t Nothing _ q h) (back-line _ _ t Nothing _ q h) (c .refuse2 .ensures))),
+              ),
+            ),
+          ),
+        ),
+      ),
+    )
 
+-- src/responding.rt:68:5
+store-requires : tie.Need-store-requires
+store-requires c κs = c .before .before .before .before .before .before .before .before .before .before .before .before .before .before .before .before .before .before .before .before .before .pre .0
+
+-- src/responding.rt:76:9
+delivering-requires : tie.Need-delivering-requires
+delivering-requires c κs = search needs
+
+-- src/responding.rt:77:5
+accept-requires : tie.Need-accept-requires
+accept-requires c κs = search needs
+
+-- src/responding.rt:20:1
 returns-3 : tie.Need-returns-3
 unfolding managerBy
 returns-3 c =
-    let g = c .before .before .before .before .before .before .before .before in
-    let x = g .before in
-    let k = x .before .before .before .before .before in
-    let w = k .before .before in
-    let a = w .before .before .before .args in
-    own-settled (a .state) (a .time) (Respond (a .response)) (w .response .result .refusal) (told (a .state) (a .response) (w .response .result) (w .response .ensures)) (k .if1 .left)
-    (sent-done (a .state) (a .time) (managerBy (a .state) (Respond (a .response))) (x .send .result) (rw (← (w .response .ensures)) (x .send .ensures)) (g .if2 .left)
-    (rw (c .accept .ensures, c .before .delivering .ensures, w .response .ensures)))
+    let d = c .before .before .before .before .before .before in
+    let o = d .before .before .before .before in
+    let w = o .before .before .before in
+    let g = w .before .before .before .before .before .before .before .before .before in
+    let v = g .before .before in
+    let a = v .before .before .before .before .args in
+    let k = a .core in
+    let x = lent (a .replies .now) (a .marks .now) (a .table .now) (a .slots .now) (a .pids .now) (a .rates .now) in
+    let s = boxOf x k in
+    let m = v .evaluate .ensures (s .desk) refl in
+    let e = w .send .ensures in
+    let f : c .accept .result .notes .summary ≡ w .send .result .summary = rw (c .accept .ensures, c .before .delivering .ensures) in
+    let r = evaluated-stored (a .replies .now) (a .marks .now) (k .desk) (k .profiles) (a .response) _ _ (v .evaluate .result) (v .evaluate .ensures) (d .store .ensures .1 (k .desk) (k .profiles) refl) in (
+      d .store .ensures .0,
+      (
+        e .0,
+        (
+          e .1 .0,
+          (
+            e .1 .1 .0,
+            (
+              λ y. e .1 .1 .1 .0 (ap (λ (u : Summary). u .ran) (sym f) ∙ y),
+              (
+                λ y. e .1 .1 .1 .1 .0 (ap (λ (u : Summary). u .ran) (sym f) ∙ y),
+                own-settled s (a .time) (Respond (a .response)) (v .evaluate .result .refusal) (response-told s (a .response) _ (ap (λ (y : Evaluated). y .refusal) m)) (g .if1 .left)
+                    (sent-done s (a .time) (managerBy s (Respond (a .response))) _ (rw (ap (λ (y : Evaluated). y .profiles) m) at (e .1 .1 .1 .1 .1)) (o .if2 .left)
+                    (responded x _ k (a .time) (a .response) (v .evaluate .result) (w .send .result .manager) (w .send .result .line) (w .send .result .summary) (c .accept .result) m r (rw (c .accept .ensures, c .before .delivering .ensures)))),
+              ),
+            ),
+          ),
+        ),
+      ),
+    )
 
 pub response-spec : {M : Type 1} → statement M
-response-spec = tie.close (tie.spec (λ c κs. search needs) (λ c κs. search needs) returns (λ c κs. search needs) (λ c κs. search needs) returns-2 (λ c κs. search needs) (λ c κs. search needs) returns-3)
+response-spec =
+    tie.close
+    (tie.spec
+    evaluate-requires
+    refuse-requires
+    returns
+    send-requires
+    refuse-requires-2
+    returns-2
+    store-requires
+    delivering-requires
+    accept-requires
+    returns-3)

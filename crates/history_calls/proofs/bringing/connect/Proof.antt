@@ -17,26 +17,20 @@ enum-known-made c = search needs
 enum-told : tie.Need-enum-told
 enum-told c = search needs
 
-bad-requires : tie.Need-bad-requires
-bad-requires c κs = search needs
-
 returns : tie.Need-returns
-returns c = let e = rw (c .before .before .before .before .first .ensures) at (c .before .before .before .flag .ensures) in rw (c .bad .ensures) (connect-bad _ _ _ (sym e ∙ c .before .enum-told .given .1))
+returns c = let e = rw (c .before .before .before .first .ensures) at (c .before .before .flag .ensures) in connect-bad _ _ (sym e ∙ c .enum-told .given .1)
+
+returns-2 : tie.Need-returns-2
+returns-2 c = let e = rw (c .before .before .before .before .before .first .ensures) at (c .before .before .before .before .flag .ensures) in connect-made _ _ _ (sym e ∙ c .before .before .made .given .1) (c .if1 .taken)
 
 behind-requires : tie.Need-behind-requires
 behind-requires c κs = search needs
-
-connected-requires : tie.Need-connected-requires
-connected-requires c κs = search needs
-
-returns-2 : tie.Need-returns-2
-returns-2 c = let e = rw (c .before .before .before .before .before .before .before .first .ensures) at (c .before .before .before .before .before .before .flag .ensures) in rw (c .connected .ensures, c .before .before .behind .ensures) (connect-made _ _ _ _ (sym e ∙ c .before .before .before .before .made .given .1) (c .before .if1 .taken))
 
 alone-requires : tie.Need-alone-requires
 alone-requires c κs = search needs
 
 returns-3 : tie.Need-returns-3
-returns-3 c = let e = rw (c .before .before .before .before .before .before .before .first .ensures) at (c .before .before .before .before .before .before .flag .ensures) in rw (c .alone .ensures, c .before .before .behind .ensures) (connect-failed _ _ _ _ (sym e ∙ c .before .before .before .before .made .given .1) (c .before .if1 .left))
+returns-3 c = let e = rw (c .before .before .before .before .before .before .before .first .ensures) at (c .before .before .before .before .before .before .flag .ensures) in rw (c .alone .ensures, c .before .behind .ensures) (connect-failed _ _ _ (sym e ∙ c .before .before .before .before .made .given .1) (c .before .before .if1 .left))
 
 pub connect-spec : {M : Type 1} → statement M
 connect-spec =
@@ -46,10 +40,8 @@ connect-spec =
     flag-requires
     enum-known-made
     enum-told
-    bad-requires
     returns
-    behind-requires
-    connected-requires
     returns-2
+    behind-requires
     alone-requires
     returns-3)

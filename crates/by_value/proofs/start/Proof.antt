@@ -1,0 +1,25 @@
+use mathlib.Core.Path.{ap, _∙_}
+use Rattle.obd2.specs.Answers.{numberIn}
+use Rattle.obd2.specs.declared.Answered.{Answered}
+use borrow.Author.Needs.{needs}
+use Rattle.by_value.proofs.start.Statement.{statement}
+use Rattle.by_value.proofs.start.Tie as tie
+use Rattle.by_value.proofs.start.Reads as reads
+use Rattle.by_value.proofs.start.Lts as lts
+use Rattle.by_value.proofs.answered_of.Reads as answered-of-reads
+use Rattle.setup_calls.proofs.start.Reads as start-reads
+
+start-requires : tie.Need-start-requires
+start-requires c κs = search needs
+
+answered-of-requires : tie.Need-answered-of-requires
+answered-of-requires c κs = search needs
+
+returns : tie.Need-returns
+returns c =
+    let e = c .answered-of .ensures in
+    let f = c .before .start .ensures .1 .1 in
+    (e ∙ f .0 _ _, ap (λ (r : Answered). numberIn (r .answer)) e ∙ f .1)
+
+pub start-spec : {M : Type 1} → statement M
+start-spec = tie.close (tie.spec start-requires answered-of-requires returns)
