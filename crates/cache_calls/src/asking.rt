@@ -1,4 +1,6 @@
 use clients::PLACES;
+use link::ranges::RANGE_ROW;
+use link::ranges::RANGES;
 use obd2::Said;
 use obd2::core::Core;
 use obd2::core::Told;
@@ -8,7 +10,7 @@ ghost use mathlib.Core.Path.{_≡_};
 ghost use lib.ListN.{length};
 ghost use Rattle.clients.specs.Rules.{places};
 ghost use Rattle.obd2.specs.Call.{ask};
-ghost use Rattle.obd2.specs.Core.{Lent, withDesk, boxOf, answeredOf};
+ghost use Rattle.obd2.specs.Core.{Lent, withAsked, boxOf, answeredOf};
 ghost use Rattle.obd2.specs.History.{inTime, lentBy};
 ghost use Rattle.obd2.specs.Refusals.{rowRefusal};
 
@@ -17,6 +19,7 @@ ghost use Rattle.obd2.specs.Refusals.{rowRefusal};
 pub fn ask(
     replies: &[[u8; ROW]; 256],
     marks: &mut [[bool; 256]; PLACES],
+    ranges: &[[u8; RANGE_ROW]; RANGES],
     mut core: Core,
     time: u64,
     number: u32,
@@ -25,11 +28,11 @@ pub fn ask(
 ) -> Told
     requires { ⌜ length (now marks) ≡ places ⌝ }
     ensures { λ _. ⌜ length (now (marks .exit)) ≡ places ⌝ }
-    ensures { λ r. ⌜ ((x : Lent) → answeredOf (withDesk x (now (replies .entry)) (now (marks .exit))) r ≡ inTime (boxOf (withDesk x (now (replies .entry)) (now (marks .entry))) core) (ask time number (now (cmd .entry)) (now (area .entry)))) ⌝ }
-    ensures { λ r. ⌜ ((x : Lent) → let s = boxOf (withDesk x (now (replies .entry)) (now (marks .entry))) core in let c = ask time number (now (cmd .entry)) (now (area .entry)) in now (area .exit) ≡ lentBy (rowRefusal s c) s c) ⌝ }
+    ensures { λ r. ⌜ ((x : Lent) → answeredOf (withAsked x (now (replies .entry)) (now (marks .exit)) (now (ranges .entry))) r ≡ inTime (boxOf (withAsked x (now (replies .entry)) (now (marks .entry)) (now (ranges .entry))) core) (ask time number (now (cmd .entry)) (now (area .entry)))) ⌝ }
+    ensures { λ r. ⌜ ((x : Lent) → let s = boxOf (withAsked x (now (replies .entry)) (now (marks .entry)) (now (ranges .entry))) core in let c = ask time number (now (cmd .entry)) (now (area .entry)) in now (area .exit) ≡ lentBy (rowRefusal s c) s c) ⌝ }
 {
     let desk = core.desk;
-    let ranges = core.poller.link.ranges;
+    let told = link::ranges::unpack_all(*ranges);
     let asked = cache::asking::ask(
         replies,
         marks,
@@ -39,7 +42,7 @@ pub fn ask(
         cmd,
         area,
         core.poller.link.connected,
-        ranges,
+        told,
     );
     let after = asked.core;
     core.desk = after;

@@ -19,11 +19,14 @@ use Rattle.obd2.specs.declared.call.Call.{Call}
 use Rattle.obd2.specs.declared.call.Call.the-variants.{Register, Leave, Ask, Collect, GiveUp, Response, ProfilePidsChanged, Waiting, Consumed, Tick, SetSettings, TakeControl, Connect, ConnectFailed, ReconnectCheck, Begin, Next, Result}
 use Rattle.obd2.specs.declared.call.Brought.{Brought}
 use Rattle.obd2.specs.declared.core.Told.{Told}
+use Rattle.poller.specs.Core.{polledRows, knownRows}
 
 -- Lent arrays as long as their types say.
 pub record Whole (x : Lent) : Type 0 where
   pub marks : length (x .marks) ≡ places
   pub table : length (x .table) ≡ 256
+  pub polled : length (x .polling .polled) ≡ polledRows
+  pub known : length (x .polling .known) ≡ knownRows
   pub pids : length (x .pids) ≡ 256
   pub rates : length (x .rates) ≡ 256
 

@@ -1,5 +1,7 @@
 // One function for every call of the box: what runs is what the histories of demand 3 speak of.
 use clients::PLACES;
+use link::ranges::RANGE_ROW;
+use link::ranges::RANGES;
 use manager::Event;
 use obd2::answers;
 use obd2::call::Brought;
@@ -7,10 +9,14 @@ use obd2::call::Call;
 use obd2::core::Core;
 use obd2::core::Told;
 use obd2::telling;
+use poller::core::KNOWN;
+use poller::core::ORDER;
+use poller::core::POLLED;
 use reply::rows::ROW;
 ghost use mathlib.Core.Path.{_≡_};
 ghost use Rattle.obd2.specs.Core.{lent, boxOf, answeredOf};
 ghost use Rattle.obd2.specs.History.{step};
+ghost use Rattle.poller.specs.Core.{held};
 ghost use Rattle.dispatch.specs.Dispatch.{Whole, Quiet, callOf, areaOf, Promised};
 
 // Applies one call, at a time, to the box: the one place that tests the time. Only this function has all of the box's arrays;
@@ -20,6 +26,10 @@ pub fn call(
     marks: &mut [[bool; 256]; PLACES],
     table: &mut [[u64; 8]; 256],
     slots: &mut [[u8; 2]; control_line::places::PLACES],
+    polled: &mut [[u8; 256]; POLLED],
+    known: &mut [[bool; 256]; KNOWN],
+    order: &mut [u8; ORDER],
+    ranges: &mut [[u8; RANGE_ROW]; RANGES],
     pids: &mut [u8; 256],
     rates: &mut [f32; 256],
     core: Core,
@@ -29,12 +39,12 @@ pub fn call(
     cmd: &[u8],
     area: &mut [u8],
 ) -> Told
-    requires { ⌜ Whole (lent (now replies) (now marks) (now table) (now slots) (now pids) (now rates)) ⌝ }
-    ensures { λ _. ⌜ Whole (lent (now (replies .exit)) (now (marks .exit)) (now (table .exit)) (now (slots .exit)) (now (pids .exit)) (now (rates .exit))) ⌝ }
-    ensures { λ r. ⌜ Quiet (lent (now (replies .entry)) (now (marks .entry)) (now (table .entry)) (now (slots .entry)) (now (pids .entry)) (now (rates .entry))) (lent (now (replies .exit)) (now (marks .exit)) (now (table .exit)) (now (slots .exit)) (now (pids .exit)) (now (rates .exit))) r ⌝ }
-    ensures { λ r. ⌜ answeredOf (lent (now (replies .exit)) (now (marks .exit)) (now (table .exit)) (now (slots .exit)) (now (pids .exit)) (now (rates .exit))) r ≡ step (boxOf (lent (now (replies .entry)) (now (marks .entry)) (now (table .entry)) (now (slots .entry)) (now (pids .entry)) (now (rates .entry))) core) (callOf time call brought (now (cmd .entry)) (now (area .entry))) ⌝ }
-    ensures { λ r. ⌜ now (area .exit) ≡ areaOf (boxOf (lent (now (replies .entry)) (now (marks .entry)) (now (table .entry)) (now (slots .entry)) (now (pids .entry)) (now (rates .entry))) core) time call brought (now (cmd .entry)) (now (area .entry)) ⌝ }
-    ensures { λ r. ⌜ Promised (boxOf (lent (now (replies .entry)) (now (marks .entry)) (now (table .entry)) (now (slots .entry)) (now (pids .entry)) (now (rates .entry))) core) (callOf time call brought (now (cmd .entry)) (now (area .entry))) (r .answer) ⌝ }
+    requires { ⌜ Whole (lent (now replies) (now marks) (now table) (now slots) (held (now polled) (now known) (now order) (now ranges)) (now pids) (now rates)) ⌝ }
+    ensures { λ _. ⌜ Whole (lent (now (replies .exit)) (now (marks .exit)) (now (table .exit)) (now (slots .exit)) (held (now (polled .exit)) (now (known .exit)) (now (order .exit)) (now (ranges .exit))) (now (pids .exit)) (now (rates .exit))) ⌝ }
+    ensures { λ r. ⌜ Quiet (lent (now (replies .entry)) (now (marks .entry)) (now (table .entry)) (now (slots .entry)) (held (now (polled .entry)) (now (known .entry)) (now (order .entry)) (now (ranges .entry))) (now (pids .entry)) (now (rates .entry))) (lent (now (replies .exit)) (now (marks .exit)) (now (table .exit)) (now (slots .exit)) (held (now (polled .exit)) (now (known .exit)) (now (order .exit)) (now (ranges .exit))) (now (pids .exit)) (now (rates .exit))) r ⌝ }
+    ensures { λ r. ⌜ answeredOf (lent (now (replies .exit)) (now (marks .exit)) (now (table .exit)) (now (slots .exit)) (held (now (polled .exit)) (now (known .exit)) (now (order .exit)) (now (ranges .exit))) (now (pids .exit)) (now (rates .exit))) r ≡ step (boxOf (lent (now (replies .entry)) (now (marks .entry)) (now (table .entry)) (now (slots .entry)) (held (now (polled .entry)) (now (known .entry)) (now (order .entry)) (now (ranges .entry))) (now (pids .entry)) (now (rates .entry))) core) (callOf time call brought (now (cmd .entry)) (now (area .entry))) ⌝ }
+    ensures { λ r. ⌜ now (area .exit) ≡ areaOf (boxOf (lent (now (replies .entry)) (now (marks .entry)) (now (table .entry)) (now (slots .entry)) (held (now (polled .entry)) (now (known .entry)) (now (order .entry)) (now (ranges .entry))) (now (pids .entry)) (now (rates .entry))) core) time call brought (now (cmd .entry)) (now (area .entry)) ⌝ }
+    ensures { λ r. ⌜ Promised (boxOf (lent (now (replies .entry)) (now (marks .entry)) (now (table .entry)) (now (slots .entry)) (held (now (polled .entry)) (now (known .entry)) (now (order .entry)) (now (ranges .entry))) (now (pids .entry)) (now (rates .entry))) core) (callOf time call brought (now (cmd .entry)) (now (area .entry))) (r .answer) ⌝ }
 {
     if answers::bad_time(core.time, time) {
         return telling::refuse(core, 1);
@@ -44,7 +54,16 @@ pub fn call(
         Call::Leave(number) => {
             desk_calls::leave(marks, table, slots, pids, rates, core, time, number)
         }
-        Call::Ask(number) => cache_calls::ask(replies, marks, core, time, number, cmd, area),
+        Call::Ask(number) => cache_calls::ask(
+            replies,
+            marks,
+            ranges,
+            core,
+            time,
+            number,
+            cmd,
+            area,
+        ),
         Call::Collect(number) => { cache_calls::collect(replies, marks, core, time, number, area) }
         Call::GiveUp(number) => cache_calls::give_up(core, time, number),
         Call::Response => desk_calls::response(
@@ -91,12 +110,12 @@ pub fn call(
             Event::Nothing,
         ),
         Call::SetSettings(settings) => setup_calls::set_settings(core, time, settings),
-        Call::TakeControl => poller_calls::take_control(slots, core, time),
-        Call::Connect => link_calls::connect(core, time, brought.session),
-        Call::ConnectFailed => link_calls::connect_failed(core, time),
+        Call::TakeControl => poller_calls::take_control(slots, polled, core, time),
+        Call::Connect => link_calls::connect(known, ranges, core, time, brought.session),
+        Call::ConnectFailed => link_calls::connect_failed(ranges, core, time),
         Call::ReconnectCheck => link_calls::reconnect_check(core, time),
-        Call::Begin => round_calls::begin(core, time),
-        Call::Next => round_calls::next(core, time),
-        Call::Result => round_calls::result(core, time, brought.outcome),
+        Call::Begin => round_calls::begin(polled, known, order, core, time),
+        Call::Next => round_calls::next(polled, known, order, core, time),
+        Call::Result => round_calls::result(polled, known, ranges, core, time, brought.outcome),
     }
 }

@@ -7,6 +7,7 @@ ghost use mathlib.Core.List.{[]};
 ghost use mathlib.Core.Path.{_≡_};
 ghost use lib.ListN.{length};
 ghost use Rattle.obd2.specs.Core.{lent, detailsOf};
+ghost use Rattle.poller.specs.Core.{held};
 ghost use Rattle.writing.specs.Fill.{fillOf, fillEnd};
 ghost use Rattle.history_answer.specs.Texts.{answerText, badText};
 
@@ -25,8 +26,8 @@ pub fn answer(
 ) -> usize
     requires { ⌜ length (now pids) ≡ 256 ⌝ }
     requires { ⌜ length (now rates) ≡ 256 ⌝ }
-    ensures { λ r. ⌜ r ≡ fillEnd (now (out .entry)) at (answerText answer (detailsOf (lent [] [] [] [] (now (pids .entry)) (now (rates .entry))) notes) delivered (now (area .entry))) ⌝ }
-    ensures { λ r. ⌜ now (out .exit) ≡ fillOf (now (out .entry)) at (answerText answer (detailsOf (lent [] [] [] [] (now (pids .entry)) (now (rates .entry))) notes) delivered (now (area .entry))) ⌝ }
+    ensures { λ r. ⌜ r ≡ fillEnd (now (out .entry)) at (answerText answer (detailsOf (lent [] [] [] [] (held [] [] [] []) (now (pids .entry)) (now (rates .entry))) notes) delivered (now (area .entry))) ⌝ }
+    ensures { λ r. ⌜ now (out .exit) ≡ fillOf (now (out .entry)) at (answerText answer (detailsOf (lent [] [] [] [] (held [] [] [] []) (now (pids .entry)) (now (rates .entry))) notes) delivered (now (area .entry))) ⌝ }
 {
     let first = history_said::said(out, at, answer, notes, delivered, area);
     let summary = notes.summary;

@@ -14,7 +14,8 @@ use Rattle.control_line.specs.Ring.{from}
 use Rattle.control_line.specs.declared.ControlLine.{ControlLine}
 use Rattle.desk.specs.declared.Revs.{Revs}
 use Rattle.manager.specs.Rows.{manager-table}
-use Rattle.obd2.specs.Core.{Lent, boxOf}
+use Rattle.obd2.specs.Core.{Lent, lent, boxOf}
+use Rattle.poller.specs.Core.{withPolled}
 use Rattle.obd2.specs.declared.State.{State}
 use Rattle.obd2.specs.declared.core.Core.{Core}
 use Rattle.pid_list.specs.Laws.{size-le}
@@ -95,6 +96,10 @@ pub show-whole : (s : State) (d : List ℕ) (at : ℕ) → length (s .manager .t
     → (fillEnd d at (showText s) ≡ at + length (showText s)) × (fillOf d at (showText s) ≡ over d at (showText s))
 show-whole s d at h k =
     let n = show-short s h in (end-fits d at (showText s) (omega arith), fill-fits d at (showText s) (omega arith))
+
+-- Lent arrays with these of what is shown.
+abbrev pub withShown : Lent → List (List ℕ) → List (List ℕ) → List (List ℕ) → Lent
+withShown x table slots polled = lent (x .replies) (x .marks) table slots (withPolled (x .polling) polled) (x .pids) (x .rates)
 
 -- A table that is lent has so many.
 pub lent-table : (x : Lent) (k : Core) → length (x .table) ≡ 256 → length (boxOf x k .manager .table) ≤ 256

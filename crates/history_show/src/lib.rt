@@ -8,18 +8,18 @@ use desk::Revs;
 use obd2::core::Core;
 use pid_list::PidList;
 use pid_table::PidInfo;
-ghost use mathlib.Core.Bool.{Bool, _||_};
-ghost use mathlib.Core.List.{List};
+use poller::core::POLLED;
+ghost use mathlib.Core.Bool.{_||_};
 ghost use mathlib.Core.Path.{_≡_};
-ghost use Prim.Native.Nat.{ℕ, min};
-ghost use lib.Ieee.{Float};
+ghost use Prim.Native.Nat.{min};
 ghost use lib.ListN.{length};
 ghost use Rattle.control_line.specs.Rows.{lineOf};
-ghost use Rattle.obd2.specs.Core.{lent, boxOf};
+ghost use Rattle.obd2.specs.Core.{Lent, boxOf};
 ghost use Rattle.pid_table.specs.Rows.{infoOf, tableOf};
 ghost use Rattle.writing.specs.Fill.{Wrote, fillOf, fillEnd};
 ghost use Rattle.history_show.specs.Texts.{letterOf, listText, pinText, entryText, tableText, messageText, lineText, revsText, showText};
 ghost use Rattle.history_show.specs.Laws.{addedText};
+ghost use Rattle.history_show.specs.Short.{withShown};
 
 // The letter of a speed.
 fn letter(priority: PidPriority) -> u8
@@ -153,24 +153,25 @@ fn revs(out: &mut [u8], at: usize, revs: Revs) -> usize
     writing::byte(out, next, b'-')
 }
 
-// The line from the place `at` on; the place behind it. The table and the control line's places are lent, and of the
-// other lent arrays nothing is shown. 8,192 bytes have room for the whole of it.
+// The line from the place `at` on; the place behind it. The table, the control line's places and the poller's lists are
+// lent, and of the other lent arrays nothing is shown. 8,192 bytes have room for the whole of it.
 pub fn show(
     out: &mut [u8],
     at: usize,
     table: &[[u64; 8]; 256],
     slots: &[[u8; 2]; PLACES],
+    polled: &[[u8; 256]; POLLED],
     core: Core,
 ) -> usize
     requires { ⌜ length (now table) ≡ 256 ⌝ }
-    ensures { λ r. ⌜ ((replies : List (List ℕ)) (marks : List (List Bool)) (pids : List ℕ) (rates : List Float) → r ≡ fillEnd (now (out .entry)) at (showText (boxOf (lent replies marks (now (table .entry)) (now (slots .entry)) pids rates) core))) ⌝ }
-    ensures { λ _. ⌜ ((replies : List (List ℕ)) (marks : List (List Bool)) (pids : List ℕ) (rates : List Float) → now (out .exit) ≡ fillOf (now (out .entry)) at (showText (boxOf (lent replies marks (now (table .entry)) (now (slots .entry)) pids rates) core))) ⌝ }
+    ensures { λ r. ⌜ ((x : Lent) → r ≡ fillEnd (now (out .entry)) at (showText (boxOf (withShown x (now (table .entry)) (now (slots .entry)) (now (polled .entry))) core))) ⌝ }
+    ensures { λ _. ⌜ ((x : Lent) → now (out .exit) ≡ fillOf (now (out .entry)) at (showText (boxOf (withShown x (now (table .entry)) (now (slots .entry)) (now (polled .entry))) core))) ⌝ }
 {
     let word = writing::put(out, at, b"show ");
     let time = writing::number(out, word, core.time);
-    let fast = core.poller.fast;
+    let fast = poller::core::fast(polled, core.poller.fast);
     let first = list(out, time, fast);
-    let slow = core.poller.slow;
+    let slow = poller::core::slow(polled, core.poller.slow);
     let second = list(out, first, slow);
     let third = entries(out, second, table);
     let ends = core.line;

@@ -1,7 +1,11 @@
 // The connection to the dongle, and what is known of the dongle while it stands.
 use reply::RangeReply;
 ghost use mathlib.Core.Path.{_≡_};
-ghost use Rattle.link.specs.Rules.{startLink, noRanges, isNo, connectOf, failOf, lossOf, restedOf, reconnectOf};
+ghost use Rattle.link.specs.Rules.{noRanges, isNo, restedOf};
+
+// what goes by value of a connection whose arrays are lent, and its calls; the ranges as they are lent
+pub mod core;
+pub mod ranges;
 
 // The Rust's FeatureSupport.
 pub enum FeatureSupport {
@@ -69,25 +73,6 @@ pub fn no_ranges() -> [RangeReply; 8]
     [absent; 8]
 }
 
-// No connection, and none tried.
-pub fn new() -> Link
-    ensures { λ r. ⌜ r ≡ startLink ⌝ }
-{
-    let ranges = no_ranges();
-    Link {
-        connected: false,
-        features: Features {
-            multi: FeatureSupport::Unknown,
-        },
-        ranges: ranges,
-        known: [false; 256],
-        attempt: Attempt {
-            made: false,
-            time: 0,
-        },
-    }
-}
-
 // Whether asking several PIDs together was refused.
 pub fn refuses(f: Features) -> bool
     ensures { λ r. ⌜ r ≡ isNo (f .multi) ⌝ }
@@ -98,57 +83,6 @@ pub fn refuses(f: Features) -> bool
         FeatureSupport::Yes => false,
         FeatureSupport::Unknown => false,
     }
-}
-
-// A connection was made.
-pub fn connect(mut l: Link, s: Session) -> Linked
-    ensures { λ r. ⌜ r ≡ connectOf l s ⌝ }
-{
-    if l.connected {
-        return Linked {
-            link: l,
-            said: Connecting::Already,
-        };
-    }
-    let features = s.features;
-    let ranges = s.ranges;
-    let known = s.known;
-    l.connected = true;
-    l.features = features;
-    l.ranges = ranges;
-    l.known = known;
-    Linked {
-        link: l,
-        said: Connecting::Connected,
-    }
-}
-
-// A connection was tried and not made.
-pub fn fail(mut l: Link) -> Linked
-    ensures { λ r. ⌜ r ≡ failOf l ⌝ }
-{
-    if l.connected {
-        return Linked {
-            link: l,
-            said: Connecting::Already,
-        };
-    }
-    let ranges = no_ranges();
-    l.ranges = ranges;
-    Linked {
-        link: l,
-        said: Connecting::Failed,
-    }
-}
-
-// The connection was lost.
-pub fn lose(mut l: Link) -> Link
-    ensures { λ r. ⌜ r ≡ lossOf l ⌝ }
-{
-    let ranges = no_ranges();
-    l.connected = false;
-    l.ranges = ranges;
-    l
 }
 
 // Whether a reconnect may be tried: the first time, or long enough after the last.
@@ -162,29 +96,4 @@ fn rested(a: Attempt, time: u64) -> bool
         return RECONNECT_DELAY <= time - a.time;
     }
     true
-}
-
-// A reconnect check. While connected it changes nothing and says no.
-pub fn reconnect(mut l: Link, time: u64) -> Checked
-    ensures { λ r. ⌜ r ≡ reconnectOf l time ⌝ }
-{
-    if l.connected {
-        return Checked {
-            link: l,
-            yes: false,
-        };
-    }
-    let attempt = l.attempt;
-    if rested(attempt, time) {
-        let made = Attempt {
-            made: true,
-            time: time,
-        };
-        l.attempt = made;
-        return Checked { link: l, yes: true };
-    }
-    Checked {
-        link: l,
-        yes: false,
-    }
 }

@@ -1,17 +1,22 @@
 // The box's calls of the connection: whether a reconnect may be tried, and how it went. The time is not tested
 // here: `dispatch::call` does that before, and is the box's door.
 use link::Session;
+use link::ranges::RANGE_ROW;
+use link::ranges::RANGES;
 use obd2::Said;
 use obd2::core::Core;
 use obd2::core::Told;
 use obd2::telling;
+use poller::core::KNOWN;
 use reply::RangeReply;
 ghost use mathlib.Core.Path.{_≡_};
+ghost use lib.ListN.{length};
 ghost use Rattle.base.specs.Each.{someOf};
 ghost use Rattle.obd2.specs.Call.{reconnectCheck, connect, connectFailed};
-ghost use Rattle.obd2.specs.Core.{Lent, boxOf, answeredOf};
+ghost use Rattle.obd2.specs.Core.{Lent, withPoller, boxOf, answeredOf};
 ghost use Rattle.obd2.specs.History.{inTime};
 ghost use Rattle.obd2.specs.Refusals.{overRange};
+ghost use Rattle.poller.specs.Core.{withConnection, withRanges, knownRows};
 
 // Whether a reconnect may be tried.
 pub fn reconnect_check(mut core: Core, time: u64) -> Told
@@ -23,7 +28,7 @@ pub fn reconnect_check(mut core: Core, time: u64) -> Told
         return telling::refuse(core, 12);
     }
     let checked = poller::calls::reconnect(poller, time);
-    let noted = checked.poller;
+    let noted = checked.core;
     core.poller = noted;
     let notes = telling::no_notes();
     telling::accept(core, time, Said::Check(checked.yes), notes)
@@ -56,11 +61,19 @@ fn any_over(ranges: [RangeReply; 8]) -> bool
 }
 
 // A connection was made, and hands in what the dongle told.
-pub fn connect(mut core: Core, time: u64, session: Session) -> Told
-    ensures { λ r. ⌜ ((x : Lent) → answeredOf x r ≡ inTime (boxOf x core) (connect time session)) ⌝ }
+pub fn connect(
+    known: &mut [[bool; 256]; KNOWN],
+    ranges: &mut [[u8; RANGE_ROW]; RANGES],
+    mut core: Core,
+    time: u64,
+    session: Session,
+) -> Told
+    requires { ⌜ length (now known) ≡ knownRows ⌝ }
+    ensures { λ _. ⌜ length (now (known .exit)) ≡ knownRows ⌝ }
+    ensures { λ r. ⌜ ((x : Lent) → answeredOf (withPoller x (withConnection (x .polling) (now (known .exit)) (now (ranges .exit)))) r ≡ inTime (boxOf (withPoller x (withConnection (x .polling) (now (known .entry)) (now (ranges .entry)))) core) (connect time session)) ⌝ }
 {
-    let ranges = session.ranges;
-    if any_over(ranges) {
+    let told = session.ranges;
+    if any_over(told) {
         return telling::refuse(core, 3);
     }
     let poller = core.poller;
@@ -68,8 +81,8 @@ pub fn connect(mut core: Core, time: u64, session: Session) -> Told
     if poller::open(round) {
         return telling::refuse(core, 12);
     }
-    let linked = poller::calls::connect(poller, session);
-    let joined = linked.poller;
+    let linked = poller::calls::connect(known, ranges, poller, session);
+    let joined = linked.core;
     core.poller = joined;
     let said = linked.said;
     let notes = telling::no_notes();
@@ -77,16 +90,16 @@ pub fn connect(mut core: Core, time: u64, session: Session) -> Told
 }
 
 // A connection was tried and not made.
-pub fn connect_failed(mut core: Core, time: u64) -> Told
-    ensures { λ r. ⌜ ((x : Lent) → answeredOf x r ≡ inTime (boxOf x core) (connectFailed time)) ⌝ }
+pub fn connect_failed(ranges: &mut [[u8; RANGE_ROW]; RANGES], mut core: Core, time: u64) -> Told
+    ensures { λ r. ⌜ ((x : Lent) → answeredOf (withPoller x (withRanges (x .polling) (now (ranges .exit)))) r ≡ inTime (boxOf (withPoller x (withRanges (x .polling) (now (ranges .entry)))) core) (connectFailed time)) ⌝ }
 {
     let poller = core.poller;
     let round = poller.round;
     if poller::open(round) {
         return telling::refuse(core, 12);
     }
-    let tried = poller::calls::fail(poller);
-    let cleared = tried.poller;
+    let tried = poller::calls::fail(ranges, poller);
+    let cleared = tried.core;
     core.poller = cleared;
     let said = tried.said;
     let notes = telling::no_notes();

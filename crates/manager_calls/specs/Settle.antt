@@ -68,8 +68,9 @@ handling k m l = record { desk = k .desk; manager = m; poller = k .poller; line 
 -- Refused by n: the manager and the line that came back are those that they were.
 pub handed-back : (x y : Lent) (k : Core) (m : ManagerCore) (l : Ends) (n : ℕ) (r : Told)
     → deskOf (y .replies) (y .marks) (k .desk) ≡ deskOf (x .replies) (x .marks) (k .desk)
+    → y .polling ≡ x .polling
     → managerOf (y .table) m ≡ managerOf (x .table) (k .manager)
     → lineOf (y .slots) l ≡ lineOf (x .slots) (k .line)
     → r ≡ refusing (handling k m l) n
     → answeredOf y r ≡ refused (boxOf x k) n
-handed-back x y k m l n r d e g f = rw (f, none-in (y .pids) (y .rates), d, e, g)
+handed-back x y k m l n r d p e g f = rw (f, none-in (y .pids) (y .rates), d, p, e, g)

@@ -8,6 +8,7 @@ use lib.ListN.{replicate}
 use Rattle.control_line.specs.Rows.{lineOf}
 use Rattle.desk.specs.Core.{deskOf}
 use Rattle.manager.specs.Rows.{managerOf}
+use Rattle.poller.specs.Core.{Held, withPolled, withRanges, pollerOf}
 use Rattle.poller.specs.State.{noQuery}
 use Rattle.poller.specs.declared.Query.{Query}
 use Rattle.report.specs.Summary.{reportIn, noSummary, none-in}
@@ -25,34 +26,41 @@ use Rattle.obd2.specs.declared.core.Notes.{Notes}
 use Rattle.obd2.specs.declared.core.Told.{Told}
 
 -- What the host lends: the newest replies and the manager's table, a row for each PID; the clients' fresh marks, a row for
--- each place; the control line's places; and the PIDs and rates of a report.
+-- each place; the control line's places; the poller's arrays; and the PIDs and rates of a report.
 pub record Lent : Type 0 where
   pub replies : List (List ℕ)
   pub marks : List (List Bool)
   pub table : List (List ℕ)
   pub slots : List (List ℕ)
+  pub polling : Held
   pub pids : List ℕ
   pub rates : List Float
 
-abbrev pub lent : List (List ℕ) → List (List Bool) → List (List ℕ) → List (List ℕ) → List ℕ → List Float → Lent
-lent replies marks table slots pids rates = record { replies = replies; marks = marks; table = table; slots = slots; pids = pids; rates = rates }
+abbrev pub lent : List (List ℕ) → List (List Bool) → List (List ℕ) → List (List ℕ) → Held → List ℕ → List Float → Lent
+lent replies marks table slots polling pids rates = record { replies = replies; marks = marks; table = table; slots = slots; polling = polling; pids = pids; rates = rates }
 
--- The same with other arrays of the desk, of the line, or of the manager.
+-- The same with other arrays of the desk, of the manager, of the poller, of the line and the lists, or of the desk and the ranges.
 abbrev pub withDesk : Lent → List (List ℕ) → List (List Bool) → Lent
-withDesk x replies marks = lent replies marks (x .table) (x .slots) (x .pids) (x .rates)
-
-abbrev pub withSlots : Lent → List (List ℕ) → Lent
-withSlots x slots = lent (x .replies) (x .marks) (x .table) slots (x .pids) (x .rates)
+withDesk x replies marks = lent replies marks (x .table) (x .slots) (x .polling) (x .pids) (x .rates)
 
 abbrev pub withManager : Lent → List (List ℕ) → List (List ℕ) → List ℕ → List Float → Lent
-withManager x table slots pids rates = lent (x .replies) (x .marks) table slots pids rates
+withManager x table slots pids rates = lent (x .replies) (x .marks) table slots (x .polling) pids rates
+
+abbrev pub withPoller : Lent → Held → Lent
+withPoller x polling = lent (x .replies) (x .marks) (x .table) (x .slots) polling (x .pids) (x .rates)
+
+abbrev pub withLine : Lent → List (List ℕ) → List (List ℕ) → Lent
+withLine x slots polled = lent (x .replies) (x .marks) (x .table) slots (withPolled (x .polling) polled) (x .pids) (x .rates)
+
+abbrev pub withAsked : Lent → List (List ℕ) → List (List Bool) → List (List ℕ) → Lent
+withAsked x replies marks ranges = lent replies marks (x .table) (x .slots) (withRanges (x .polling) ranges) (x .pids) (x .rates)
 
 -- THE BOX that the lent arrays and the rest are.
 abbrev pub boxOf : Lent → Core → State
 boxOf x k = record {
   desk = deskOf (x .replies) (x .marks) (k .desk);
   manager = managerOf (x .table) (k .manager);
-  poller = k .poller;
+  poller = pollerOf (x .polling) (k .poller);
   line = lineOf (x .slots) (k .line);
   profiles = k .profiles;
   settings = k .settings;

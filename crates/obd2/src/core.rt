@@ -3,7 +3,6 @@ use super::Answer;
 use config::Profiles;
 use config::Settings;
 use control_line::places::Ends;
-use poller::Poller;
 use poller::Query;
 use report::summary::Summary;
 
@@ -12,7 +11,7 @@ use report::summary::Summary;
 pub struct Core {
     pub desk: desk::core::Core,
     pub manager: manager::rows::Core,
-    pub poller: Poller,
+    pub poller: poller::core::Core,
     pub line: Ends,
     pub profiles: Profiles,
     pub settings: Settings,

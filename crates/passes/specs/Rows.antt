@@ -42,23 +42,49 @@ entry-by Demote t p i = refl
 entry-by Remove t p i = refl
 entry-by Clear t p i = refl
 
--- Registering leaves alone what is not pinned and not wanted; demoting and removing, what is not tracked; clearing, a
--- count of 0.
-unfoldable pub restsIn : Pass → ℕ → List ℕ → Bool
-restsIn Register n row = eqb (getD row 2 0) 0 && eqb n 0
-restsIn Demote n row = eqb (getD row 0 0) 0
-restsIn Remove n row = eqb (getD row 0 0) 0
-restsIn Clear n row = eqb (getD row 3 0) 0
+-- The number of a row that a pass looks at first. Registering leaves alone what is not pinned and not wanted; demoting and
+-- removing, what is not tracked; clearing, a count of 0.
+unfoldable pub columnOf : Pass → ℕ
+columnOf Register = 2
+columnOf Demote = 0
+columnOf Remove = 0
+columnOf Clear = 3
+
+below-8 : (a : Pass) → columnOf a < 8
+unfolding columnOf
+below-8 Register = omega arith
+below-8 Demote = omega arith
+below-8 Remove = omega arith
+below-8 Clear = omega arith
+
+pub column-near : (a : Pass) (column : ℕ) → column ≡ columnOf a → column < 8
+column-near a column e = rw e (below-8 a)
+
+-- One test for all passes: where a pass goes by no wishes, every wish is 0, and to ask for that changes nothing.
+unfoldable pub restsBy : ℕ → ℕ → Bool
+restsBy n wish = eqb n 0 && eqb wish 0
+
+abbrev pub restsIn : Pass → ℕ → List ℕ → Bool
+restsIn a n row = restsBy (getD row (columnOf a) 0) n
+
+module _ (n wish : ℕ) (e : restsBy n wish ≡ true) where
+  number-0 : eqb n 0 ≡ true
+  unfolding restsBy
+  number-0 = both-left (eqb n 0) (eqb wish 0) e
+
+  wish-0 : eqb wish 0 ≡ true
+  unfolding restsBy
+  wish-0 = both-right (eqb n 0) (eqb wish 0) e
 
 pub rests-kept : (a : Pass) (s : Settings) (now n : ℕ) (row : List ℕ) → restsIn a n row ≡ true → entryBy a s now (wishIn n) (infoOf row) ≡ infoOf row
-unfolding restsIn entryBy
+unfolding columnOf entryBy
 rests-kept Register s now n row e =
-    let g = both-right (eqb (getD row 2 0) 0) (eqb n 0) e in
-    let f = both-left (eqb (getD row 2 0) 0) (eqb n 0) e in
+    let f = number-0 (getD row 2 0) n e in
+    let g = wish-0 (getD row 2 0) n e in
     unwanted-rests (infoOf row) (wishIn n) now (rw g) (rw (pinned-in row, f))
-rests-kept Demote s now n row e = untracked-undemoted (infoOf row) (s .demotion) (s .removal) now (rw (tracked-in row, e))
-rests-kept Remove s now n row e = untracked-stays (infoOf row) (s .removal) now (rw (tracked-in row, e))
-rests-kept Clear s now n row e = uncounted-rests (infoOf row) (count-in row ∙ (rw (eqb-true (getD row 3 0) 0 e)))
+rests-kept Demote s now n row e = untracked-undemoted (infoOf row) (s .demotion) (s .removal) now (rw (tracked-in row, number-0 (getD row 0 0) n e))
+rests-kept Remove s now n row e = untracked-stays (infoOf row) (s .removal) now (rw (tracked-in row, number-0 (getD row 0 0) n e))
+rests-kept Clear s now n row e = uncounted-rests (infoOf row) (count-in row ∙ (rw (eqb-true (getD row 3 0) 0 (number-0 (getD row 3 0) n e))))
 
 -- The laws of a pass, over rows.
 module _ (f : ℕ → PidInfo → PidInfo) where

@@ -8,7 +8,7 @@ use pid_table::Wish;
 ghost use mathlib.Core.Path.{_≡_};
 ghost use lib.ListN.{length};
 ghost use Rattle.passes.specs.Sweep.{entryAfter, sweepOf, sweepsOf, upkeep};
-ghost use Rattle.passes.specs.Rows.{entryBy, restsIn, ledgerOf};
+ghost use Rattle.passes.specs.Rows.{entryBy, columnOf, restsBy, ledgerOf};
 
 // What a pass makes of an entry whose PID is wanted so.
 fn entry_by(pass: Pass, settings: Settings, now: u64, wish: Wish, info: PidInfo) -> PidInfo
@@ -22,17 +22,24 @@ fn entry_by(pass: Pass, settings: Settings, now: u64, wish: Wish, info: PidInfo)
     }
 }
 
-// Whether a pass is sure to leave a row as it is, told from the row's numbers: most PIDs are not in the table, and this test costs
-// less than to make their entries anew.
-fn rests(pass: Pass, wish: u8, row: [u64; 8]) -> bool
-    ensures { λ r. ⌜ r ≡ restsIn pass wish row ⌝ }
+// The number of a row that a pass looks at first: whether its PID is pinned, is in the table at all, or was consumed.
+fn column_of(pass: Pass) -> usize
+    ensures { λ r. ⌜ r ≡ columnOf pass ⌝ }
 {
     match pass {
-        Pass::Register => { if row[2] == 0 { wish == 0 } else { false } }
-        Pass::Demote => row[0] == 0,
-        Pass::Remove => row[0] == 0,
-        Pass::Clear => row[3] == 0,
+        Pass::Register => 2,
+        Pass::Demote => 0,
+        Pass::Remove => 0,
+        Pass::Clear => 3,
     }
+}
+
+// Whether a pass is sure to leave a row as it is, told from that number and the wish: most PIDs are not in the table, and this
+// test costs less than to make their entries anew.
+fn rests(number: u64, wish: u8) -> bool
+    ensures { λ r. ⌜ r ≡ restsBy number wish ⌝ }
+{
+    if number == 0 { wish == 0 } else { false }
 }
 
 // One pass over the table; what it tells goes into the outbox.
@@ -44,11 +51,12 @@ pub fn sweep(table: &mut [[u64; 8]; 256], mut outbox: Outbox, pass: Pass, terms:
     let profiles = terms.profiles;
     let settings = terms.settings;
     let wishes = crate::wishes::wishes_for(pass, profiles);
+    let column = column_of(pass);
     let mut i: usize = 0;
     while i < 256 {
-        let row = table[i];
         let number = wishes[i];
-        if !rests(pass, number, row) {
+        if !rests(table[i][column], number) {
+            let row = table[i];
             let before = pid_table::rows::unpack(row);
             let wish = crate::wishes::wish_in(number);
             let after = entry_by(pass, settings, terms.now, wish, before);

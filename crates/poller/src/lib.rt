@@ -6,10 +6,11 @@ use link::Link;
 use pid_list::PidList;
 use plan::Plan;
 ghost use mathlib.Core.Path.{_≡_};
-ghost use Rattle.poller.specs.State.{startOf, openedRound, closedRound, noQuery, openOf, dueOf};
+ghost use Rattle.poller.specs.State.{openedRound, closedRound, noQuery, openOf, dueOf};
 
-// control messages, the connection, and a round's begin
+// control messages, the connection, and a round's begin; what goes by value of a poller whose arrays are lent
 pub mod calls;
+pub mod core;
 
 // A query: the first `count` of `pids`, and the ECU count kept for them, 0 for none.
 pub struct Query {
@@ -74,29 +75,6 @@ pub struct Checked {
 pub struct Lists {
     pub fast: PidList,
     pub slow: PidList,
-}
-
-// The poller before any call.
-pub fn new(time: u64) -> Poller
-    ensures { λ r. ⌜ r ≡ startOf time ⌝ }
-{
-    let list = pid_list::empty();
-    let counts = [0u8; 256];
-    let link = link::new();
-    let settings = config::default_settings();
-    let plan = plan::make(list, list, counts, [false; 256], 6);
-    let round = closed();
-    Poller {
-        fast: list,
-        slow: list,
-        clock: time,
-        requests: 0,
-        counts: counts,
-        link: link,
-        settings: settings,
-        plan: plan,
-        round: round,
-    }
 }
 
 // The query when none is due.

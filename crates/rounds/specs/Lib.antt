@@ -2,3 +2,4 @@ pub mod Numbers
 pub mod Next
 pub mod Result
 pub mod Cases
+pub mod Core

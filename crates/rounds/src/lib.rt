@@ -1,6 +1,7 @@
 // The steps of a round: `next` asks or ends, `result` brings what the dongle answered.
 use link::Features;
 use poller::Poller;
+use poller::core::Core;
 
 // what a round asks next, and its end
 pub mod next;
@@ -11,6 +12,12 @@ pub mod result;
 pub enum Step {
     Ask,
     End(u32),
+}
+
+// What a step leaves beside the lent arrays, and what it is.
+pub struct Moved {
+    pub core: Core,
+    pub step: Step,
 }
 
 pub struct Stepped {

@@ -1,16 +1,24 @@
 // What a round asks next, and its end.
+use super::Moved;
 use super::Step;
-use super::Stepped;
 use config::Settings;
 use plan::Chunk;
 use poller::Phase;
-use poller::Poller;
 use poller::Query;
 use poller::Round;
+use poller::core::COUNTS;
+use poller::core::Core;
+use poller::core::KNOWN;
+use poller::core::ORDER;
+use poller::core::POLLED;
 ghost use mathlib.Core.Bool.{_&&_};
-ghost use mathlib.Core.List.{[], _∷_};
+ghost use mathlib.Core.List.{List, [], _∷_};
 ghost use mathlib.Core.Path.{_≡_};
+ghost use Prim.Native.Nat.{ℕ};
+ghost use lib.ListN.{getD};
 ghost use Rattle.plan.specs.Steps.{chunkOf};
+ghost use Rattle.poller.specs.Core.{Held, held, withPolled, countsRow, pollerOf};
+ghost use Rattle.rounds.specs.Core.{steppedIn};
 ghost use Rattle.rounds.specs.Numbers.{stepValues, valuesFrom};
 ghost use Rattle.rounds.specs.Next.{slowDue, issueOf, endOf, slowOf, firstOf, multiOf, nextOf};
 
@@ -25,11 +33,11 @@ fn single(pid: u8) -> Chunk
 }
 
 // A query is issued, with the ECU count kept for its PIDs. All of a chunk have the same one.
-fn issue(mut p: Poller, phase: Phase, c: Chunk) -> Stepped
-    ensures { λ r. ⌜ r ≡ issueOf p phase c ⌝ }
+fn issue(polled: &[[u8; 256]; POLLED], mut p: Core, phase: Phase, c: Chunk) -> Moved
+    ensures { λ r. ⌜ ((x : Held) → steppedIn (withPolled x (now (polled .entry))) r ≡ issueOf (pollerOf (withPolled x (now (polled .entry))) p) phase c) ⌝ }
 {
     let row = pid_list::row(c.pids[0]);
-    let ecu = p.counts[row];
+    let ecu = polled[COUNTS][row];
     let pids = c.pids;
     let due = Query {
         pids: pids,
@@ -45,21 +53,21 @@ fn issue(mut p: Poller, phase: Phase, c: Chunk) -> Stepped
         due: due,
     };
     p.round = after;
-    Stepped {
-        poller: p,
+    Moved {
+        core: p,
         step: Step::Ask,
     }
 }
 
 // The round ends, with the number of queries that it issued.
-fn end(mut p: Poller) -> Stepped
-    ensures { λ r. ⌜ r ≡ endOf p ⌝ }
+fn end(mut p: Core) -> Moved
+    ensures { λ r. ⌜ ((x : Held) → steppedIn x r ≡ endOf (pollerOf x p)) ⌝ }
 {
     let round = p.round;
     let closed = poller::closed();
     p.round = closed;
-    Stepped {
-        poller: p,
+    Moved {
+        core: p,
         step: Step::End(round.issued),
     }
 }
@@ -86,68 +94,79 @@ fn sendable(found: bool, connected: bool) -> bool
 }
 
 // The slow test is made. The slow index moves where it passes, also when nothing can be sent.
-fn slow(mut p: Poller, time: u64) -> Stepped
-    ensures { λ r. ⌜ r ≡ slowOf p time ⌝ }
+fn slow(polled: &[[u8; 256]; POLLED], mut p: Core, time: u64) -> Moved
+    ensures { λ r. ⌜ ((x : Held) → steppedIn (withPolled x (now (polled .entry))) r ≡ slowOf (pollerOf (withPolled x (now (polled .entry))) p) time) ⌝ }
 {
     let settings = p.settings;
     if !slow_due(settings, p.round.nofast, time, p.clock, p.requests) {
         return end(p);
     }
-    let list = p.slow;
+    let list = poller::core::slow(polled, p.slow);
     let picked = pid_list::next(list);
     let moved = picked.list;
     p.requests = 0;
-    p.slow = moved;
+    p.slow = poller::core::ends_of(moved);
     let link = p.link;
     if sendable(picked.found, link.connected) {
-        return issue(p, Phase::SlowDue, single(picked.pid));
+        return issue(polled, p, Phase::SlowDue, single(picked.pid));
     }
     p.clock = time;
     end(p)
 }
 
 // A single round's first step: the next fast PID, or the slow test where there is none.
-fn first(mut p: Poller, time: u64) -> Stepped
-    ensures { λ r. ⌜ r ≡ firstOf p time ⌝ }
+fn first(polled: &[[u8; 256]; POLLED], mut p: Core, time: u64) -> Moved
+    ensures { λ r. ⌜ ((x : Held) → steppedIn (withPolled x (now (polled .entry))) r ≡ firstOf (pollerOf (withPolled x (now (polled .entry))) p) time) ⌝ }
 {
-    let list = p.fast;
+    let list = poller::core::fast(polled, p.fast);
     let picked = pid_list::next(list);
     if !picked.found {
-        return slow(p, time);
+        return slow(polled, p, time);
     }
     let moved = picked.list;
     let requests = base::more(p.requests);
-    p.fast = moved;
+    p.fast = poller::core::ends_of(moved);
     p.requests = requests;
-    issue(p, Phase::FastDue, single(picked.pid))
+    issue(polled, p, Phase::FastDue, single(picked.pid))
 }
 
 // A multi round's step: the next chunk of its plan.
-fn multi(mut p: Poller) -> Stepped
-    ensures { λ r. ⌜ r ≡ multiOf p ⌝ }
+fn multi(
+    polled: &[[u8; 256]; POLLED],
+    known: &[[bool; 256]; KNOWN],
+    order: &[u8; ORDER],
+    mut p: Core,
+) -> Moved
+    ensures { λ r. ⌜ ((ranges : List (List ℕ)) → let x = held (now (polled .entry)) (now (known .entry)) (now (order .entry)) ranges in steppedIn x r ≡ multiOf (pollerOf x p)) ⌝ }
 {
-    let plan = p.plan;
+    let plan = poller::core::plan(polled, known, order, p.plan);
     let taken = plan::take(plan);
     let chunk = taken.chunk;
     if chunk.count == 0 {
         return end(p);
     }
     let left = taken.plan;
-    p.plan = left;
-    issue(p, Phase::MultiDue, chunk)
+    p.plan = poller::core::course_of(left);
+    issue(polled, p, Phase::MultiDue, chunk)
 }
 
 // The next step of an open round.
-pub fn next(p: Poller, time: u64) -> Stepped
-    ensures { λ r. ⌜ r ≡ nextOf p time ⌝ }
-    ensures { λ r. ⌜ stepValues (r .step) (r .poller .round .due) ≡ valuesFrom (p .counts) (p .round .issued) (r .step) (r .poller .round .due) ⌝ }
+pub fn next(
+    polled: &[[u8; 256]; POLLED],
+    known: &[[bool; 256]; KNOWN],
+    order: &[u8; ORDER],
+    p: Core,
+    time: u64,
+) -> Moved
+    ensures { λ r. ⌜ ((ranges : List (List ℕ)) → let x = held (now (polled .entry)) (now (known .entry)) (now (order .entry)) ranges in steppedIn x r ≡ nextOf (pollerOf x p) time) ⌝ }
+    ensures { λ r. ⌜ stepValues (r .step) (r .core .round .due) ≡ valuesFrom (getD (now (polled .entry)) countsRow []) (p .round .issued) (r .step) (r .core .round .due) ⌝ }
 {
     let round = p.round;
     let phase = round.phase;
     match phase {
-        Phase::First => first(p, time),
-        Phase::Test => slow(p, time),
-        Phase::Multi => multi(p),
+        Phase::First => first(polled, p, time),
+        Phase::Test => slow(polled, p, time),
+        Phase::Multi => multi(polled, known, order, p),
         // a round that is over; the box refuses the other phases by 13 before
         _ => end(p),
     }

@@ -4,12 +4,23 @@ use super::Learnt;
 use super::Lessons;
 use super::Outcome;
 use link::Features;
-use link::Link;
+use link::ranges::RANGE_ROW;
+use link::ranges::RANGES;
 use poller::Phase;
-use poller::Poller;
 use poller::Query;
 use poller::Round;
+use poller::core::COUNTS;
+use poller::core::Core;
+use poller::core::KNOWN;
+use poller::core::LENGTHS;
+use poller::core::POLLED;
+ghost use mathlib.Core.Bool.{Bool};
+ghost use mathlib.Core.List.{List};
 ghost use mathlib.Core.Path.{_≡_};
+ghost use Prim.Native.Nat.{ℕ};
+ghost use lib.ListN.{length};
+ghost use Rattle.link.specs.Core.{linkOf};
+ghost use Rattle.poller.specs.Core.{held, polledRows, knownRows, pollerOf};
 ghost use Rattle.rounds.specs.Result.{isLost, teachOf, learnOf, endsMulti, phaseAfter, roundAfter, clockAfter, linkAfter, resultOf};
 
 // Whether the connection was lost.
@@ -50,14 +61,18 @@ fn learn(mut k: Lessons, q: Query, learnt: [Learnt; 6]) -> Lessons
     k
 }
 
-// The connection after the result.
-fn link_after(mut l: Link, known: [bool; 256], features: Features, gone: bool) -> Link
-    ensures { λ r. ⌜ r ≡ linkAfter l known features gone ⌝ }
+// The connection after the result, its known lengths apart.
+fn link_after(
+    ranges: &mut [[u8; RANGE_ROW]; RANGES],
+    mut l: link::core::Core,
+    features: Features,
+    gone: bool,
+) -> link::core::Core
+    ensures { λ r. ⌜ ((lengths taught : List Bool) → linkOf taught (now (ranges .exit)) r ≡ linkAfter (linkOf lengths (now (ranges .entry)) l) taught features gone) ⌝ }
 {
-    l.known = known;
     l.features = features;
     if gone {
-        return link::lose(l);
+        return link::core::lose(ranges, l);
     }
     l
 }
@@ -130,8 +145,19 @@ fn clock_after(phase: Phase, clock: u64, time: u64) -> u64
 }
 
 // The result of the query that is due.
-pub fn result(mut p: Poller, time: u64, o: Outcome) -> Poller
-    ensures { λ r. ⌜ r ≡ resultOf p time o ⌝ }
+pub fn result(
+    polled: &mut [[u8; 256]; POLLED],
+    known: &mut [[bool; 256]; KNOWN],
+    ranges: &mut [[u8; RANGE_ROW]; RANGES],
+    mut p: Core,
+    time: u64,
+    o: Outcome,
+) -> Core
+    requires { ⌜ length (now polled) ≡ polledRows ⌝ }
+    requires { ⌜ length (now known) ≡ knownRows ⌝ }
+    ensures { λ _. ⌜ length (now (polled .exit)) ≡ polledRows ⌝ }
+    ensures { λ _. ⌜ length (now (known .exit)) ≡ knownRows ⌝ }
+    ensures { λ r. ⌜ ((order : List ℕ) → pollerOf (held (now (polled .exit)) (now (known .exit)) order (now (ranges .exit))) r ≡ resultOf (pollerOf (held (now (polled .entry)) (now (known .entry)) order (now (ranges .entry))) p) time o) ⌝ }
 {
     let kind = o.kind;
     let gone = lost(kind);
@@ -139,24 +165,25 @@ pub fn result(mut p: Poller, time: u64, o: Outcome) -> Poller
     let denied = link::refuses(features);
     let round = p.round;
     let link = p.link;
-    let counts = p.counts;
-    let known = link.known;
+    let counts = polled[COUNTS];
+    let lengths = known[LENGTHS];
     let asked = round.due;
     let learnt = o.learnt;
     let lessons = learn(
         Lessons {
             counts: counts,
-            known: known,
+            known: lengths,
         },
         asked,
         learnt,
     );
     let taught = lessons.known;
     let kept = lessons.counts;
+    polled[COUNTS] = kept;
+    known[LENGTHS] = taught;
     let phase = round.phase;
     p.clock = clock_after(phase, p.clock, time);
-    p.link = link_after(link, taught, features, gone);
+    p.link = link_after(ranges, link, features, gone);
     p.round = round_after(round, denied, gone);
-    p.counts = kept;
     p
 }

@@ -24,8 +24,9 @@ use Rattle.manager.specs.Calls.{startOf as startManager}
 use Rattle.manager.specs.Rows.{answerOf}
 use Rattle.manager.specs.declared.Answer.{Answer as Managed}
 use Rattle.manager.specs.declared.rows.Handled.{Handled}
+use Rattle.poller.specs.Core.{pollerOf}
 use Rattle.poller.specs.State.{startOf as startPoller}
-use Rattle.poller.specs.declared.Poller.{Poller}
+use Rattle.poller.specs.declared.core.Core.{Core as PollerCore}
 use Rattle.report.specs.Summary.{none-in}
 use Rattle.profile_check.specs.Check.{badProfiles, unknownMode}
 use Rattle.obd2.specs.Answers.{numberIn}
@@ -58,12 +59,12 @@ pub either-second : (x y z : Bool) → x ≡ false → y ≡ z → (x || y) ≡ 
 either-second x y z e f = rw e f
 
 -- The box that a start makes, from what its parts are.
-module _ (t : ℕ) (st : Settings) (ps : Profiles) (x : Lent) (d : DeskCore) (m : Handled) (p : Poller) (l : Ends) (empty : ControlLine) where
+module _ (t : ℕ) (st : Settings) (ps : Profiles) (x : Lent) (d : DeskCore) (m : Handled) (p : PollerCore) (l : Ends) (empty : ControlLine) where
   pub started-is : deskOf (x .replies) (x .marks) d ≡ startDesk
       → answerOf (x .table) (x .pids) (x .rates) m ≡ startManager (record { profiles = ps; settings = st; now = t })
       → empty ≡ emptyLine
       → lineOf (x .slots) l ≡ pushAllOf empty (messages (m .outbox))
-      → p ≡ startPoller t
+      → pollerOf (x .polling) p ≡ startPoller t
       → boxOf x (record { desk = d; manager = m .core; poller = p; line = l; profiles = ps; settings = st; time = t }) ≡ started t st ps
   unfolding started answerOf
   started-is e f g h k = rw (e, h, g, k, ap (λ (a : Managed). a .manager) f, ap (λ (a : Managed). a .outbox) f)

@@ -3,6 +3,8 @@
 use clients::PLACES;
 use config::Profiles;
 use config::Settings;
+use link::ranges::RANGE_ROW;
+use link::ranges::RANGES;
 use obd2::Answer;
 use obd2::Said;
 use obd2::answers;
@@ -10,6 +12,9 @@ use obd2::core::Core;
 use obd2::core::Told;
 use obd2::telling;
 use passes::Terms;
+use poller::core::KNOWN;
+use poller::core::ORDER;
+use poller::core::POLLED;
 use reply::rows::ROW;
 ghost use mathlib.Core.List.{List};
 ghost use mathlib.Core.Path.{_≡_};
@@ -25,6 +30,7 @@ ghost use Rattle.obd2.specs.Core.{Lent, lent, boxOf, answeredOf};
 ghost use Rattle.obd2.specs.History.{refused, inTime, startOf};
 ghost use Rattle.obd2.specs.Refusals.{startRefusal};
 ghost use Rattle.obd2.specs.State.{started};
+ghost use Rattle.poller.specs.Core.{held, polledRows, knownRows};
 
 // The box before its first call, whatever its arrays had. An empty line has room for all that a start sends.
 fn started(
@@ -32,13 +38,19 @@ fn started(
     marks: &mut [[bool; 256]; PLACES],
     table: &mut [[u64; 8]; 256],
     slots: &mut [[u8; 2]; control_line::places::PLACES],
+    polled: &mut [[u8; 256]; POLLED],
+    known: &mut [[bool; 256]; KNOWN],
+    order: &mut [u8; ORDER],
+    ranges: &mut [[u8; RANGE_ROW]; RANGES],
     time: u64,
     settings: Settings,
     profiles: Profiles,
 ) -> Core
     ensures { λ _. ⌜ length (now (marks .exit)) ≡ places ⌝ }
     ensures { λ _. ⌜ length (now (table .exit)) ≡ 256 ⌝ }
-    ensures { λ r. ⌜ ((pids : List ℕ) (rates : List Float) → boxOf (lent (now (replies .exit)) (now (marks .exit)) (now (table .exit)) (now (slots .exit)) pids rates) r ≡ started time settings profiles) ⌝ }
+    ensures { λ _. ⌜ length (now (polled .exit)) ≡ polledRows ⌝ }
+    ensures { λ _. ⌜ length (now (known .exit)) ≡ knownRows ⌝ }
+    ensures { λ r. ⌜ ((pids : List ℕ) (rates : List Float) → boxOf (lent (now (replies .exit)) (now (marks .exit)) (now (table .exit)) (now (slots .exit)) (held (now (polled .exit)) (now (known .exit)) (now (order .exit)) (now (ranges .exit))) pids rates) r ≡ started time settings profiles) ⌝ }
 {
     let terms = Terms {
         profiles: profiles,
@@ -51,7 +63,7 @@ fn started(
     let nothing = control_line::places::clear(slots);
     let line = control_line::places::push_all(slots, nothing, sent);
     let desk = desk::core::start(replies, marks);
-    let poller = poller::new(time);
+    let poller = poller::core::start(polled, known, order, ranges, time);
     Core {
         desk: desk,
         manager: manager,
@@ -69,15 +81,33 @@ fn refuse_start(
     marks: &mut [[bool; 256]; PLACES],
     table: &mut [[u64; 8]; 256],
     slots: &mut [[u8; 2]; control_line::places::PLACES],
+    polled: &mut [[u8; 256]; POLLED],
+    known: &mut [[bool; 256]; KNOWN],
+    order: &mut [u8; ORDER],
+    ranges: &mut [[u8; RANGE_ROW]; RANGES],
     number: u8,
 ) -> Told
     ensures { λ _. ⌜ length (now (marks .exit)) ≡ places ⌝ }
     ensures { λ _. ⌜ length (now (table .exit)) ≡ 256 ⌝ }
-    ensures { λ r. ⌜ ((pids : List ℕ) (rates : List Float) → answeredOf (lent (now (replies .exit)) (now (marks .exit)) (now (table .exit)) (now (slots .exit)) pids rates) r ≡ refused (started 0 defaultSettings noProfiles) number) ⌝ }
+    ensures { λ _. ⌜ length (now (polled .exit)) ≡ polledRows ⌝ }
+    ensures { λ _. ⌜ length (now (known .exit)) ≡ knownRows ⌝ }
+    ensures { λ r. ⌜ ((pids : List ℕ) (rates : List Float) → answeredOf (lent (now (replies .exit)) (now (marks .exit)) (now (table .exit)) (now (slots .exit)) (held (now (polled .exit)) (now (known .exit)) (now (order .exit)) (now (ranges .exit))) pids rates) r ≡ refused (started 0 defaultSettings noProfiles) number) ⌝ }
 {
     let settings = config::default_settings();
     let profiles = config::no_profiles();
-    let core = started(replies, marks, table, slots, 0, settings, profiles);
+    let core = started(
+        replies,
+        marks,
+        table,
+        slots,
+        polled,
+        known,
+        order,
+        ranges,
+        0,
+        settings,
+        profiles,
+    );
     telling::refuse(core, number)
 }
 
@@ -87,25 +117,73 @@ pub fn start(
     marks: &mut [[bool; 256]; PLACES],
     table: &mut [[u64; 8]; 256],
     slots: &mut [[u8; 2]; control_line::places::PLACES],
+    polled: &mut [[u8; 256]; POLLED],
+    known: &mut [[bool; 256]; KNOWN],
+    order: &mut [u8; ORDER],
+    ranges: &mut [[u8; RANGE_ROW]; RANGES],
     time: u64,
     settings: Settings,
     profiles: Profiles,
 ) -> Told
     ensures { λ _. ⌜ length (now (marks .exit)) ≡ places ⌝ }
     ensures { λ _. ⌜ length (now (table .exit)) ≡ 256 ⌝ }
-    ensures { λ r. ⌜ ((pids : List ℕ) (rates : List Float) → answeredOf (lent (now (replies .exit)) (now (marks .exit)) (now (table .exit)) (now (slots .exit)) pids rates) r ≡ startOf time settings profiles) ⌝ }
+    ensures { λ _. ⌜ length (now (polled .exit)) ≡ polledRows ⌝ }
+    ensures { λ _. ⌜ length (now (known .exit)) ≡ knownRows ⌝ }
+    ensures { λ r. ⌜ ((pids : List ℕ) (rates : List Float) → answeredOf (lent (now (replies .exit)) (now (marks .exit)) (now (table .exit)) (now (slots .exit)) (held (now (polled .exit)) (now (known .exit)) (now (order .exit)) (now (ranges .exit))) pids rates) r ≡ startOf time settings profiles) ⌝ }
     ensures { λ r. ⌜ numberIn (r .answer) ≡ startRefusal time settings profiles ⌝ }
 {
     if answers::bad_time(0, time) {
-        return refuse_start(replies, marks, table, slots, 1);
+        return refuse_start(
+            replies,
+            marks,
+            table,
+            slots,
+            polled,
+            known,
+            order,
+            ranges,
+            1,
+        );
     }
     if profile_check::unknown_mode(settings.mode) {
-        return refuse_start(replies, marks, table, slots, 2);
+        return refuse_start(
+            replies,
+            marks,
+            table,
+            slots,
+            polled,
+            known,
+            order,
+            ranges,
+            2,
+        );
     }
     if profile_check::bad_profiles(profiles) {
-        return refuse_start(replies, marks, table, slots, 2);
+        return refuse_start(
+            replies,
+            marks,
+            table,
+            slots,
+            polled,
+            known,
+            order,
+            ranges,
+            2,
+        );
     }
-    let core = started(replies, marks, table, slots, time, settings, profiles);
+    let core = started(
+        replies,
+        marks,
+        table,
+        slots,
+        polled,
+        known,
+        order,
+        ranges,
+        time,
+        settings,
+        profiles,
+    );
     let notes = telling::no_notes();
     Told {
         core: core,

@@ -27,6 +27,7 @@ use Rattle.obd2.specs.Refusals.{managerRows}
 use Rattle.obd2.specs.declared.call.Brought.{Brought}
 use Rattle.obd2.specs.declared.call.Call.{Call}
 use Rattle.obd2.specs.declared.call.Call.the-variants.{Register, Leave, Ask, Collect, GiveUp, Response, ProfilePidsChanged, Waiting, Consumed, Tick, SetSettings, TakeControl, Connect, ConnectFailed, ReconnectCheck, Begin, Next, Result}
+use Rattle.poller.specs.Core.{held}
 use Rattle.reply.proofs.Reply.{the-type as reply-type}
 use Rattle.reply.specs.Rules.{noReply}
 use Rattle.reply.specs.declared.Reply.{Reply}
@@ -100,7 +101,7 @@ BytesOf x = Bytes (x .bytes)
 response-fits : (c : tie.Start) → FitResponse (c .args .brought .response)
 response-fits c =
     let r = c .args .brought .response in
-    let g = c .good .1 .1 .1 .1 .1 .1 .1 .1 .1 .0 .1 .1 .1 .0 .1 .1 .1 in
+    let g = c .good .1 .1 .1 .1 .1 .1 .1 .1 .1 .1 .1 .1 .1 .0 .1 .1 .1 .0 .1 .1 .1 in
     record {
       six = simp length-map at (g .0 .1 .0 .1);
       small = record { each = λ i. elem-fits-field w8 w8 (r .pids) _ i (g .0 .1 .1) tt .fits };
@@ -122,10 +123,10 @@ returns c =
     let w = c .before .before in
     let s = w .before .before .before in
     let a = s .args in
-    let x = lent (a .replies .now) (a .marks .now) (a .table .now) (a .slots .now) (a .pids .now) (a .rates .now) in
+    let x = lent (a .replies .now) (a .marks .now) (a .table .now) (a .slots .now) (held (a .polled .now) (a .known .now) (a .order .now) (a .ranges .now)) (a .pids .now) (a .rates .now) in
     let o = boxOf x (a .core) in
-    let n = simp length-map at (s .good .1 .1 .1 .1 .1 .1 .1 .1 .1 .0 .1 .1 .0 .1 .1 .0 .1 .0 .1) in
-    let f = fits (a .time) (a .brought) (now (a .cmd)) (now (a .area)) (response-fits s) n (a .call) (owed the-type the-laws (a .call) _ (s .good .1 .1 .1 .1 .1 .1 .1 .1 .0)) in (
+    let n = simp length-map at (s .good .1 .1 .1 .1 .1 .1 .1 .1 .1 .1 .1 .1 .1 .0 .1 .1 .0 .1 .1 .0 .1 .0 .1) in
+    let f = fits (a .time) (a .brought) (now (a .cmd)) (now (a .area)) (response-fits s) n (a .call) (owed the-type the-laws (a .call) _ (s .good .1 .1 .1 .1 .1 .1 .1 .1 .1 .1 .1 .1 .0)) in (
       s .pre,
       (
         λ z. (refl, refl),
@@ -286,15 +287,15 @@ returns-2 c =
     let s = g .before .before .before .before in
     let a = s .args in
     let p = s .pre in
-    let x = lent (a .replies .now) (a .marks .now) (a .table .now) (a .slots .now) (a .pids .now) (a .rates .now) in
+    let x = lent (a .replies .now) (a .marks .now) (a .table .now) (a .slots .now) (held (a .polled .now) (a .known .now) (a .order .now) (a .ranges .now)) (a .pids .now) (a .rates .now) in
     let o = boxOf x (a .core) in
     let w = c in
     let e = w .register .ensures in (
-      record { marks = e .0; table = e .1 .0; pids = e .1 .1 .0; rates = e .1 .1 .1 .0 },
+      record { marks = e .0; table = e .1 .0; polled = p .polled; known = p .known; pids = e .1 .1 .0; rates = e .1 .1 .1 .0 },
       (
         λ z. (e .1 .1 .1 .1 .0 z, e .1 .1 .1 .1 .1 .0 z),
         found o (a .time) (a .brought) (now (a .cmd)) (now (a .area)) (c .before .before .before .before .before .before .enum-told .given .1)
-            (done-timely o (a .time) (a .brought) (now (a .cmd)) (now (a .area)) _ tt (sym (g .before .bad-time .ensures) ∙ g .if1 .left) (e .1 .1 .1 .1 .1 .1 (a .replies .now), refl)),
+            (done-timely o (a .time) (a .brought) (now (a .cmd)) (now (a .area)) _ tt (sym (g .before .bad-time .ensures) ∙ g .if1 .left) (e .1 .1 .1 .1 .1 .1 (a .replies .now) (x .polling), refl)),
       ),
     )
 
@@ -306,15 +307,15 @@ returns-3 c =
     let s = g .before .before .before .before in
     let a = s .args in
     let p = s .pre in
-    let x = lent (a .replies .now) (a .marks .now) (a .table .now) (a .slots .now) (a .pids .now) (a .rates .now) in
+    let x = lent (a .replies .now) (a .marks .now) (a .table .now) (a .slots .now) (held (a .polled .now) (a .known .now) (a .order .now) (a .ranges .now)) (a .pids .now) (a .rates .now) in
     let o = boxOf x (a .core) in
     let w = c in
     let e = w .leave .ensures in (
-      record { marks = e .0; table = e .1 .0; pids = e .1 .1 .0; rates = e .1 .1 .1 .0 },
+      record { marks = e .0; table = e .1 .0; polled = p .polled; known = p .known; pids = e .1 .1 .0; rates = e .1 .1 .1 .0 },
       (
         λ z. (e .1 .1 .1 .1 .0 z, e .1 .1 .1 .1 .1 .0 z),
         found o (a .time) (a .brought) (now (a .cmd)) (now (a .area)) (c .before .before .before .before .before .before .before .call .given .1)
-            (done-timely o (a .time) (a .brought) (now (a .cmd)) (now (a .area)) _ tt (sym (g .before .bad-time .ensures) ∙ g .if1 .left) (e .1 .1 .1 .1 .1 .1 (a .replies .now), refl)),
+            (done-timely o (a .time) (a .brought) (now (a .cmd)) (now (a .area)) _ tt (sym (g .before .bad-time .ensures) ∙ g .if1 .left) (e .1 .1 .1 .1 .1 .1 (a .replies .now) (x .polling), refl)),
       ),
     )
 
@@ -326,18 +327,18 @@ same-length c = search needs
 returns-4 : tie.Need-returns-4
 unfolding callOf areaBy fills lentBy
 returns-4 c =
-    let g = c .before .before .before .before .before .before .before .before .before in
+    let g = c .before .before .before .before .before .before .before .before .before .before in
     let s = g .before .before .before .before in
     let a = s .args in
     let p = s .pre in
-    let x = lent (a .replies .now) (a .marks .now) (a .table .now) (a .slots .now) (a .pids .now) (a .rates .now) in
+    let x = lent (a .replies .now) (a .marks .now) (a .table .now) (a .slots .now) (held (a .polled .now) (a .known .now) (a .order .now) (a .ranges .now)) (a .pids .now) (a .rates .now) in
     let o = boxOf x (a .core) in
     let w = c .before .before in
     let e = w .ask .ensures in (
-      record { marks = e .0; table = p .table; pids = p .pids; rates = p .rates },
+      record { marks = e .0; table = p .table; polled = p .polled; known = p .known; pids = p .pids; rates = p .rates },
       (
         λ z. (refl, refl),
-        found o (a .time) (a .brought) (now (a .cmd)) (now (a .area)) (c .before .before .before .before .before .before .before .call2 .given .1)
+        found o (a .time) (a .brought) (now (a .cmd)) (now (a .area)) (c .before .before .before .before .before .before .before .before .call2 .given .1)
             (done-timely o (a .time) (a .brought) (now (a .cmd)) (now (a .area)) _ tt (sym (g .before .bad-time .ensures) ∙ g .if1 .left) (e .1 .0 x, e .1 .1 x ∙ filled _ _ _)),
       ),
     )
@@ -354,11 +355,11 @@ returns-5 c =
     let s = g .before .before .before .before in
     let a = s .args in
     let p = s .pre in
-    let x = lent (a .replies .now) (a .marks .now) (a .table .now) (a .slots .now) (a .pids .now) (a .rates .now) in
+    let x = lent (a .replies .now) (a .marks .now) (a .table .now) (a .slots .now) (held (a .polled .now) (a .known .now) (a .order .now) (a .ranges .now)) (a .pids .now) (a .rates .now) in
     let o = boxOf x (a .core) in
     let w = c .before .before in
     let e = w .collect .ensures in (
-      record { marks = e .0; table = p .table; pids = p .pids; rates = p .rates },
+      record { marks = e .0; table = p .table; polled = p .polled; known = p .known; pids = p .pids; rates = p .rates },
       (
         λ z. (refl, refl),
         found o (a .time) (a .brought) (now (a .cmd)) (now (a .area)) (c .before .before .before .before .before .before .before .call3 .given .1)
@@ -374,7 +375,7 @@ returns-6 c =
     let s = g .before .before .before .before in
     let a = s .args in
     let p = s .pre in
-    let x = lent (a .replies .now) (a .marks .now) (a .table .now) (a .slots .now) (a .pids .now) (a .rates .now) in
+    let x = lent (a .replies .now) (a .marks .now) (a .table .now) (a .slots .now) (held (a .polled .now) (a .known .now) (a .order .now) (a .ranges .now)) (a .pids .now) (a .rates .now) in
     let o = boxOf x (a .core) in
     let w = c in
     let e = w .give-up .ensures in (
@@ -394,15 +395,15 @@ returns-7 c =
     let s = g .before .before .before .before in
     let a = s .args in
     let p = s .pre in
-    let x = lent (a .replies .now) (a .marks .now) (a .table .now) (a .slots .now) (a .pids .now) (a .rates .now) in
+    let x = lent (a .replies .now) (a .marks .now) (a .table .now) (a .slots .now) (held (a .polled .now) (a .known .now) (a .order .now) (a .ranges .now)) (a .pids .now) (a .rates .now) in
     let o = boxOf x (a .core) in
     let w = c in
     let e = w .response .ensures in (
-      record { marks = e .0; table = e .1 .0; pids = e .1 .1 .0; rates = e .1 .1 .1 .0 },
+      record { marks = e .0; table = e .1 .0; polled = p .polled; known = p .known; pids = e .1 .1 .0; rates = e .1 .1 .1 .0 },
       (
         λ z. (e .1 .1 .1 .1 .0 z, e .1 .1 .1 .1 .1 .0 z),
         found o (a .time) (a .brought) (now (a .cmd)) (now (a .area)) (c .before .before .before .before .before .before .before .enum-told2 .given .1)
-            (done-timely o (a .time) (a .brought) (now (a .cmd)) (now (a .area)) _ (response-fits s) (sym (g .before .bad-time .ensures) ∙ g .if1 .left) (e .1 .1 .1 .1 .1 .1, refl)),
+            (done-timely o (a .time) (a .brought) (now (a .cmd)) (now (a .area)) _ (response-fits s) (sym (g .before .bad-time .ensures) ∙ g .if1 .left) (e .1 .1 .1 .1 .1 .1 (x .polling), refl)),
       ),
     )
 
@@ -414,12 +415,12 @@ returns-8 c =
     let s = g .before .before .before .before in
     let a = s .args in
     let p = s .pre in
-    let x = lent (a .replies .now) (a .marks .now) (a .table .now) (a .slots .now) (a .pids .now) (a .rates .now) in
+    let x = lent (a .replies .now) (a .marks .now) (a .table .now) (a .slots .now) (held (a .polled .now) (a .known .now) (a .order .now) (a .ranges .now)) (a .pids .now) (a .rates .now) in
     let o = boxOf x (a .core) in
     let w = c in
     let e = w .profile-pids-changed .ensures in
-    let n = simp length-map at (s .good .1 .1 .1 .1 .1 .1 .1 .1 .1 .0 .1 .1 .0 .1 .1 .0 .1 .0 .1) in (
-      record { marks = p .marks; table = e .0; pids = e .1 .0; rates = e .1 .1 .0 },
+    let n = simp length-map at (s .good .1 .1 .1 .1 .1 .1 .1 .1 .1 .1 .1 .1 .1 .0 .1 .1 .0 .1 .1 .0 .1 .0 .1) in (
+      record { marks = p .marks; table = e .0; polled = p .polled; known = p .known; pids = e .1 .0; rates = e .1 .1 .0 },
       (
         λ z. (e .1 .1 .1 .0 z, e .1 .1 .1 .1 .0 z),
         found o (a .time) (a .brought) (now (a .cmd)) (now (a .area)) (c .before .before .before .before .before .enum-told3 .given .1)
@@ -435,15 +436,15 @@ returns-9 c =
     let s = g .before .before .before .before in
     let a = s .args in
     let p = s .pre in
-    let x = lent (a .replies .now) (a .marks .now) (a .table .now) (a .slots .now) (a .pids .now) (a .rates .now) in
+    let x = lent (a .replies .now) (a .marks .now) (a .table .now) (a .slots .now) (held (a .polled .now) (a .known .now) (a .order .now) (a .ranges .now)) (a .pids .now) (a .rates .now) in
     let o = boxOf x (a .core) in
     let w = c in
     let e = w .tell .ensures in (
-      record { marks = p .marks; table = e .0; pids = e .1 .0; rates = e .1 .1 .0 },
+      record { marks = p .marks; table = e .0; polled = p .polled; known = p .known; pids = e .1 .0; rates = e .1 .1 .0 },
       (
         λ z. (e .1 .1 .1 .0 z, e .1 .1 .1 .1 .0 z),
         found o (a .time) (a .brought) (now (a .cmd)) (now (a .area)) (c .before .before .before .before .before .before .call5 .given .1)
-            (done-timely o (a .time) (a .brought) (now (a .cmd)) (now (a .area)) _ (subst Holds (c .before .before .before .before .before .before .call5 .given .1) (owed the-type the-laws (a .call) _ (s .good .1 .1 .1 .1 .1 .1 .1 .1 .0)) .0 .1) (sym (g .before .bad-time .ensures) ∙ g .if1 .left) (own-settled o (a .time) (history.Waiting _) 0 (sym first-none) refl (e .1 .1 .1 .1 .1 x), refl)),
+            (done-timely o (a .time) (a .brought) (now (a .cmd)) (now (a .area)) _ (subst Holds (c .before .before .before .before .before .before .call5 .given .1) (owed the-type the-laws (a .call) _ (s .good .1 .1 .1 .1 .1 .1 .1 .1 .1 .1 .1 .1 .0)) .0 .1) (sym (g .before .bad-time .ensures) ∙ g .if1 .left) (own-settled o (a .time) (history.Waiting _) 0 (sym first-none) refl (e .1 .1 .1 .1 .1 x), refl)),
       ),
     )
 
@@ -455,15 +456,15 @@ returns-10 c =
     let s = g .before .before .before .before in
     let a = s .args in
     let p = s .pre in
-    let x = lent (a .replies .now) (a .marks .now) (a .table .now) (a .slots .now) (a .pids .now) (a .rates .now) in
+    let x = lent (a .replies .now) (a .marks .now) (a .table .now) (a .slots .now) (held (a .polled .now) (a .known .now) (a .order .now) (a .ranges .now)) (a .pids .now) (a .rates .now) in
     let o = boxOf x (a .core) in
     let w = c in
     let e = w .consumed .ensures in (
-      record { marks = p .marks; table = e .0; pids = e .1 .0; rates = e .1 .1 .0 },
+      record { marks = p .marks; table = e .0; polled = p .polled; known = p .known; pids = e .1 .0; rates = e .1 .1 .0 },
       (
         λ z. (e .1 .1 .1 .0 z, e .1 .1 .1 .1 .0 z),
         found o (a .time) (a .brought) (now (a .cmd)) (now (a .area)) (c .before .before .before .before .before .before .call6 .given .1)
-            (done-timely o (a .time) (a .brought) (now (a .cmd)) (now (a .area)) _ (subst Holds (c .before .before .before .before .before .before .call6 .given .1) (owed the-type the-laws (a .call) _ (s .good .1 .1 .1 .1 .1 .1 .1 .1 .0)) .0 .1) (sym (g .before .bad-time .ensures) ∙ g .if1 .left) (e .1 .1 .1 .1 .1 x, refl)),
+            (done-timely o (a .time) (a .brought) (now (a .cmd)) (now (a .area)) _ (subst Holds (c .before .before .before .before .before .before .call6 .given .1) (owed the-type the-laws (a .call) _ (s .good .1 .1 .1 .1 .1 .1 .1 .1 .1 .1 .1 .1 .0)) .0 .1) (sym (g .before .bad-time .ensures) ∙ g .if1 .left) (e .1 .1 .1 .1 .1 x, refl)),
       ),
     )
 
@@ -475,11 +476,11 @@ returns-11 c =
     let s = g .before .before .before .before in
     let a = s .args in
     let p = s .pre in
-    let x = lent (a .replies .now) (a .marks .now) (a .table .now) (a .slots .now) (a .pids .now) (a .rates .now) in
+    let x = lent (a .replies .now) (a .marks .now) (a .table .now) (a .slots .now) (held (a .polled .now) (a .known .now) (a .order .now) (a .ranges .now)) (a .pids .now) (a .rates .now) in
     let o = boxOf x (a .core) in
     let w = c in
     let e = w .tell2 .ensures in (
-      record { marks = p .marks; table = e .0; pids = e .1 .0; rates = e .1 .1 .0 },
+      record { marks = p .marks; table = e .0; polled = p .polled; known = p .known; pids = e .1 .0; rates = e .1 .1 .0 },
       (
         λ z. (e .1 .1 .1 .0 z, e .1 .1 .1 .1 .0 z),
         found o (a .time) (a .brought) (now (a .cmd)) (now (a .area)) (c .before .before .before .before .before .enum-told4 .given .1)
@@ -495,7 +496,7 @@ returns-12 c =
     let s = g .before .before .before .before in
     let a = s .args in
     let p = s .pre in
-    let x = lent (a .replies .now) (a .marks .now) (a .table .now) (a .slots .now) (a .pids .now) (a .rates .now) in
+    let x = lent (a .replies .now) (a .marks .now) (a .table .now) (a .slots .now) (held (a .polled .now) (a .known .now) (a .order .now) (a .ranges .now)) (a .pids .now) (a .rates .now) in
     let o = boxOf x (a .core) in
     let w = c in
     let e = w .set-settings .ensures in (
@@ -511,19 +512,19 @@ returns-12 c =
 returns-13 : tie.Need-returns-13
 unfolding callOf areaBy fills
 returns-13 c =
-    let g = c .before .before .before .before in
+    let g = c .before .before .before .before .before in
     let s = g .before .before .before .before in
     let a = s .args in
     let p = s .pre in
-    let x = lent (a .replies .now) (a .marks .now) (a .table .now) (a .slots .now) (a .pids .now) (a .rates .now) in
+    let x = lent (a .replies .now) (a .marks .now) (a .table .now) (a .slots .now) (held (a .polled .now) (a .known .now) (a .order .now) (a .ranges .now)) (a .pids .now) (a .rates .now) in
     let o = boxOf x (a .core) in
     let w = c in
     let e = w .take-control .ensures in (
-      p,
+      record { marks = p .marks; table = p .table; polled = e .0; known = p .known; pids = p .pids; rates = p .rates },
       (
         λ z. (refl, refl),
-        found o (a .time) (a .brought) (now (a .cmd)) (now (a .area)) (c .before .before .enum-told5 .given .1)
-            (done-timely o (a .time) (a .brought) (now (a .cmd)) (now (a .area)) _ tt (sym (g .before .bad-time .ensures) ∙ g .if1 .left) (e x, refl)),
+        found o (a .time) (a .brought) (now (a .cmd)) (now (a .area)) (c .before .before .before .enum-told5 .given .1)
+            (done-timely o (a .time) (a .brought) (now (a .cmd)) (now (a .area)) _ tt (sym (g .before .bad-time .ensures) ∙ g .if1 .left) (e .1 x, refl)),
       ),
     )
 
@@ -531,19 +532,19 @@ returns-13 c =
 returns-14 : tie.Need-returns-14
 unfolding callOf areaBy fills
 returns-14 c =
-    let g = c .before .before .before in
+    let g = c .before .before .before .before .before in
     let s = g .before .before .before .before in
     let a = s .args in
     let p = s .pre in
-    let x = lent (a .replies .now) (a .marks .now) (a .table .now) (a .slots .now) (a .pids .now) (a .rates .now) in
+    let x = lent (a .replies .now) (a .marks .now) (a .table .now) (a .slots .now) (held (a .polled .now) (a .known .now) (a .order .now) (a .ranges .now)) (a .pids .now) (a .rates .now) in
     let o = boxOf x (a .core) in
     let w = c in
     let e = w .connect .ensures in (
-      p,
+      record { marks = p .marks; table = p .table; polled = p .polled; known = e .0; pids = p .pids; rates = p .rates },
       (
         λ z. (refl, refl),
-        found o (a .time) (a .brought) (now (a .cmd)) (now (a .area)) (c .before .enum-told6 .given .1)
-            (done-timely o (a .time) (a .brought) (now (a .cmd)) (now (a .area)) _ tt (sym (g .before .bad-time .ensures) ∙ g .if1 .left) (e x, refl)),
+        found o (a .time) (a .brought) (now (a .cmd)) (now (a .area)) (c .before .before .before .enum-told6 .given .1)
+            (done-timely o (a .time) (a .brought) (now (a .cmd)) (now (a .area)) _ tt (sym (g .before .bad-time .ensures) ∙ g .if1 .left) (e .1 x, refl)),
       ),
     )
 
@@ -551,18 +552,18 @@ returns-14 c =
 returns-15 : tie.Need-returns-15
 unfolding callOf areaBy fills
 returns-15 c =
-    let g = c .before .before .before in
+    let g = c .before .before .before .before in
     let s = g .before .before .before .before in
     let a = s .args in
     let p = s .pre in
-    let x = lent (a .replies .now) (a .marks .now) (a .table .now) (a .slots .now) (a .pids .now) (a .rates .now) in
+    let x = lent (a .replies .now) (a .marks .now) (a .table .now) (a .slots .now) (held (a .polled .now) (a .known .now) (a .order .now) (a .ranges .now)) (a .pids .now) (a .rates .now) in
     let o = boxOf x (a .core) in
     let w = c in
     let e = w .connect-failed .ensures in (
-      p,
+      record { marks = p .marks; table = p .table; polled = p .polled; known = p .known; pids = p .pids; rates = p .rates },
       (
         λ z. (refl, refl),
-        found o (a .time) (a .brought) (now (a .cmd)) (now (a .area)) (c .before .enum-told7 .given .1)
+        found o (a .time) (a .brought) (now (a .cmd)) (now (a .area)) (c .before .before .enum-told7 .given .1)
             (done-timely o (a .time) (a .brought) (now (a .cmd)) (now (a .area)) _ tt (sym (g .before .bad-time .ensures) ∙ g .if1 .left) (e x, refl)),
       ),
     )
@@ -575,7 +576,7 @@ returns-16 c =
     let s = g .before .before .before .before in
     let a = s .args in
     let p = s .pre in
-    let x = lent (a .replies .now) (a .marks .now) (a .table .now) (a .slots .now) (a .pids .now) (a .rates .now) in
+    let x = lent (a .replies .now) (a .marks .now) (a .table .now) (a .slots .now) (held (a .polled .now) (a .known .now) (a .order .now) (a .ranges .now)) (a .pids .now) (a .rates .now) in
     let o = boxOf x (a .core) in
     let w = c in
     let e = w .reconnect-check .ensures in (
@@ -591,19 +592,19 @@ returns-16 c =
 returns-17 : tie.Need-returns-17
 unfolding callOf areaBy fills
 returns-17 c =
-    let g = c .before .before .before in
+    let g = c .before .before .before .before .before .before in
     let s = g .before .before .before .before in
     let a = s .args in
     let p = s .pre in
-    let x = lent (a .replies .now) (a .marks .now) (a .table .now) (a .slots .now) (a .pids .now) (a .rates .now) in
+    let x = lent (a .replies .now) (a .marks .now) (a .table .now) (a .slots .now) (held (a .polled .now) (a .known .now) (a .order .now) (a .ranges .now)) (a .pids .now) (a .rates .now) in
     let o = boxOf x (a .core) in
     let w = c in
     let e = w .begin .ensures in (
-      p,
+      record { marks = p .marks; table = p .table; polled = e .0; known = e .1 .0; pids = p .pids; rates = p .rates },
       (
         λ z. (refl, refl),
-        found o (a .time) (a .brought) (now (a .cmd)) (now (a .area)) (c .before .enum-told9 .given .1)
-            (done-timely o (a .time) (a .brought) (now (a .cmd)) (now (a .area)) _ tt (sym (g .before .bad-time .ensures) ∙ g .if1 .left) (e x, refl)),
+        found o (a .time) (a .brought) (now (a .cmd)) (now (a .area)) (c .before .before .before .before .enum-told9 .given .1)
+            (done-timely o (a .time) (a .brought) (now (a .cmd)) (now (a .area)) _ tt (sym (g .before .bad-time .ensures) ∙ g .if1 .left) (e .1 .1 x (a .ranges .now), refl)),
       ),
     )
 
@@ -611,19 +612,19 @@ returns-17 c =
 returns-18 : tie.Need-returns-18
 unfolding callOf areaBy fills
 returns-18 c =
-    let g = c .before .before .before in
+    let g = c .before .before .before .before .before .before in
     let s = g .before .before .before .before in
     let a = s .args in
     let p = s .pre in
-    let x = lent (a .replies .now) (a .marks .now) (a .table .now) (a .slots .now) (a .pids .now) (a .rates .now) in
+    let x = lent (a .replies .now) (a .marks .now) (a .table .now) (a .slots .now) (held (a .polled .now) (a .known .now) (a .order .now) (a .ranges .now)) (a .pids .now) (a .rates .now) in
     let o = boxOf x (a .core) in
     let w = c in
     let e = w .next .ensures in (
       p,
       (
         λ z. (refl, refl),
-        found o (a .time) (a .brought) (now (a .cmd)) (now (a .area)) (c .before .enum-told10 .given .1)
-            (done-timely o (a .time) (a .brought) (now (a .cmd)) (now (a .area)) _ tt (sym (g .before .bad-time .ensures) ∙ g .if1 .left) (e x, refl)),
+        found o (a .time) (a .brought) (now (a .cmd)) (now (a .area)) (c .before .before .before .before .enum-told10 .given .1)
+            (done-timely o (a .time) (a .brought) (now (a .cmd)) (now (a .area)) _ tt (sym (g .before .bad-time .ensures) ∙ g .if1 .left) (e x (a .ranges .now), refl)),
       ),
     )
 
@@ -631,19 +632,19 @@ returns-18 c =
 returns-19 : tie.Need-returns-19
 unfolding callOf areaBy fills
 returns-19 c =
-    let g = c .before .before .before in
+    let g = c .before .before .before .before .before .before in
     let s = g .before .before .before .before in
     let a = s .args in
     let p = s .pre in
-    let x = lent (a .replies .now) (a .marks .now) (a .table .now) (a .slots .now) (a .pids .now) (a .rates .now) in
+    let x = lent (a .replies .now) (a .marks .now) (a .table .now) (a .slots .now) (held (a .polled .now) (a .known .now) (a .order .now) (a .ranges .now)) (a .pids .now) (a .rates .now) in
     let o = boxOf x (a .core) in
     let w = c in
     let e = w .result .ensures in (
-      p,
+      record { marks = p .marks; table = p .table; polled = e .0; known = e .1 .0; pids = p .pids; rates = p .rates },
       (
         λ z. (refl, refl),
-        found o (a .time) (a .brought) (now (a .cmd)) (now (a .area)) (c .before .enum-told11 .given .1)
-            (done-timely o (a .time) (a .brought) (now (a .cmd)) (now (a .area)) _ tt (sym (g .before .bad-time .ensures) ∙ g .if1 .left) (e x, refl)),
+        found o (a .time) (a .brought) (now (a .cmd)) (now (a .area)) (c .before .before .before .before .enum-told11 .given .1)
+            (done-timely o (a .time) (a .brought) (now (a .cmd)) (now (a .area)) _ tt (sym (g .before .bad-time .ensures) ∙ g .if1 .left) (e .1 .1 x (a .order .now), refl)),
       ),
     )
 

@@ -2,6 +2,7 @@
 use Rattle.writing.specs.Fill.{wrote-then}
 use Rattle.history_answer.specs.Texts.{answerText}
 use Rattle.obd2.specs.Core.{lent}
+use Rattle.poller.specs.Core.{held}
 use mathlib.Core.List.{[]}
 use borrow.Author.Needs.{needs}
 use Rattle.history_answer.proofs.answer.Statement.{statement}
@@ -26,7 +27,7 @@ returns c =
     let b = d .before .before .before .before in
     let a = b .before .before .before .before .before in
     let s = a .before .before .before .before .args in
-    let w = wrote-then (a .said .ensures (lent [] [] [] [] (s .pids .now) (s .rates .now))) (wrote-then (b .report .ensures) (d .byte .ensures)) in
+    let w = wrote-then (a .said .ensures (lent [] [] [] [] (held [] [] [] []) (s .pids .now) (s .rates .now))) (wrote-then (b .report .ensures) (d .byte .ensures)) in
     (w .place-is, w .out-is)
 
 pub answer-spec : {M : Type 1} → statement M

@@ -50,7 +50,7 @@ returns c =
                   let s = withManager x (a .table .now) (a .slots .now) (a .pids .now) (a .rates .now) in
                   let l = withManager x (w .send .last .0) (w .send .last .1 .0) (w .send .last .1 .1 .0) (w .send .last .1 .1 .1 .0) in
                   sent-refused (boxOf s k) (a .time) (withoutValues (boxOf x k .desk) (a .profiles) (a .event) Done) _ q h
-                  (handed-back s l k (w .send .result .manager) (w .send .result .line) 15 (c .refuse .result) refl (back-manager _ _ t (a .event) _ q h) (back-line _ _ t (a .event) _ q h) (c .refuse .ensures)),
+                  (handed-back s l k (w .send .result .manager) (w .send .result .line) 15 (c .refuse .result) refl refl (back-manager _ _ t (a .event) _ q h) (back-line _ _ t (a .event) _ q h) (c .refuse .ensures)),
             ),
           ),
         ),

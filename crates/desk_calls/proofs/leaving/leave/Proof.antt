@@ -24,15 +24,15 @@ use Rattle.obd2.proofs.telling.accept.Reads as accept-reads
 use Rattle.obd2.proofs.telling.refuse.Reads as refuse-reads
 use Rattle.obd2.proofs.telling.reporting.Reads as reporting-reads
 
--- src/leaving.rt:50:9
+-- src/leaving.rt:51:9
 send-requires : tie.Need-send-requires
 send-requires c κs = search needs
 
--- src/leaving.rt:56:9
+-- src/leaving.rt:66:9
 refuse-requires : tie.Need-refuse-requires
 refuse-requires c κs = search needs
 
--- src/leaving.rt:56:9
+-- src/leaving.rt:66:9
 returns : tie.Need-returns
 unfolding managerBy managerRows
 returns c =
@@ -55,12 +55,12 @@ returns c =
               λ y. e .1 .1 .1 .0 z,
               (
                 λ y. e .1 .1 .1 .1 .0 z,
-                λ replies.
-                    let x = lent replies (a .marks .now) (a .table .now) (a .slots .now) (a .pids .now) (a .rates .now) in
+                λ replies polling.
+                    let x = lent replies (a .marks .now) (a .table .now) (a .slots .now) polling (a .pids .now) (a .rates .now) in
                     let s = boxOf x k in
                     own-settled s (a .time) (Leave (a .number)) 0 (sym first-none) refl
                     (sent-refused s (a .time) (managerBy s (Leave (a .number))) _ q h
-                    (handed-back x (lent replies (a .marks .now) (w .send .last .0) (w .send .last .1 .0) (w .send .last .1 .1 .0) (w .send .last .1 .1 .1 .0)) k (w .send .result .manager) (w .send .result .line) 15 (c .refuse .result) refl (back-manager _ _ t Nothing _ q h) (back-line _ _ t Nothing _ q h) (c .refuse .ensures))),
+                    (handed-back x (lent replies (a .marks .now) (w .send .last .0) (w .send .last .1 .0) polling (w .send .last .1 .1 .0) (w .send .last .1 .1 .1 .0)) k (w .send .result .manager) (w .send .result .line) 15 (c .refuse .result) refl refl (back-manager _ _ t Nothing _ q h) (back-line _ _ t Nothing _ q h) (c .refuse .ensures))),
               ),
             ),
           ),
@@ -68,19 +68,19 @@ returns c =
       ),
     )
 
--- src/leaving.rt:59:9
+-- src/leaving.rt:69:9
 leave-requires : tie.Need-leave-requires
 leave-requires c κs = search needs
 
--- src/leaving.rt:62:9
+-- src/leaving.rt:72:9
 reporting-requires : tie.Need-reporting-requires
 reporting-requires c κs = search needs
 
--- src/leaving.rt:63:5
+-- src/leaving.rt:73:5
 accept-requires : tie.Need-accept-requires
 accept-requires c κs = search needs
 
--- src/leaving.rt:19:1
+-- src/leaving.rt:20:1
 returns-2 : tie.Need-returns-2
 unfolding managerBy managerRows
 returns-2 c =
@@ -102,8 +102,8 @@ returns-2 c =
               λ y. e .1 .1 .1 .0 (ap (λ (u : Summary). u .ran) (sym f) ∙ y),
               (
                 λ y. e .1 .1 .1 .1 .0 (ap (λ (u : Summary). u .ran) (sym f) ∙ y),
-                λ replies.
-                    let x = lent replies (a .marks .now) (a .table .now) (a .slots .now) (a .pids .now) (a .rates .now) in
+                λ replies polling.
+                    let x = lent replies (a .marks .now) (a .table .now) (a .slots .now) polling (a .pids .now) (a .rates .now) in
                     let s = boxOf x k in
                     own-settled s (a .time) (Leave (a .number)) 0 (sym first-none) refl
                     (sent-done s (a .time) (managerBy s (Leave (a .number))) _ (e .1 .1 .1 .1 .1) (o .if1 .left)

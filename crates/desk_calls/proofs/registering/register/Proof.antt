@@ -6,8 +6,7 @@ use Rattle.manager.specs.Rows.{managerOf}
 use Rattle.manager.specs.declared.Event.the-variants.{Nothing}
 use Rattle.manager_calls.specs.Send.{back-manager, back-line, back-report, no-ran}
 use Rattle.manager_calls.specs.Settle.{sent-refused, sent-done, handed-back, own-refused, own-settled}
-use Rattle.desk.specs.declared.Desk.{Desk}
-use Rattle.desk_calls.specs.Desk.{register-told, registered-desk, registered-given}
+use Rattle.desk_calls.specs.Desk.{register-told, registered}
 use Rattle.obd2.specs.Call.{Register}
 use Rattle.obd2.specs.Core.{lent, boxOf, refused-is}
 use Rattle.obd2.specs.Done.{managerBy}
@@ -25,15 +24,15 @@ use Rattle.obd2.proofs.telling.accept.Reads as accept-reads
 use Rattle.obd2.proofs.telling.refuse.Reads as refuse-reads
 use Rattle.obd2.proofs.telling.reporting.Reads as reporting-reads
 
--- src/registering.rt:41:9
+-- src/registering.rt:42:9
 refusal-requires : tie.Need-refusal-requires
 refusal-requires c κs = search needs
 
--- src/registering.rt:43:9
+-- src/registering.rt:44:9
 refuse-requires : tie.Need-refuse-requires
 refuse-requires c κs = search needs
 
--- src/registering.rt:43:9
+-- src/registering.rt:44:9
 returns : tie.Need-returns
 returns c =
     let w = c .before .before in
@@ -49,8 +48,8 @@ returns c =
               λ z. refl,
               (
                 λ z. refl,
-                λ replies.
-                    let x = lent replies (a .marks .now) (a .table .now) (a .slots .now) (a .pids .now) (a .rates .now) in
+                λ replies polling.
+                    let x = lent replies (a .marks .now) (a .table .now) (a .slots .now) polling (a .pids .now) (a .rates .now) in
                     let s = boxOf x (a .core) in
                     own-refused s (a .time) Register (w .refusal .result) (register-told s _ (w .refusal .ensures replies (a .marks .now))) (c .before .if1 .taken) (refused-is x (a .core) (c .refuse .result) _ (c .refuse .ensures)),
               ),
@@ -60,15 +59,15 @@ returns c =
       ),
     )
 
--- src/registering.rt:54:9
+-- src/registering.rt:55:9
 send-requires : tie.Need-send-requires
 send-requires c κs = search needs
 
--- src/registering.rt:60:9
+-- src/registering.rt:70:9
 refuse-requires-2 : tie.Need-refuse-requires-2
 refuse-requires-2 c κs = search needs
 
--- src/registering.rt:60:9
+-- src/registering.rt:70:9
 returns-2 : tie.Need-returns-2
 unfolding managerBy
 returns-2 c =
@@ -93,12 +92,12 @@ returns-2 c =
               λ y. e .1 .1 .1 .0 z,
               (
                 λ y. e .1 .1 .1 .1 .0 z,
-                λ replies.
-                    let x = lent replies (a .marks .now) (a .table .now) (a .slots .now) (a .pids .now) (a .rates .now) in
+                λ replies polling.
+                    let x = lent replies (a .marks .now) (a .table .now) (a .slots .now) polling (a .pids .now) (a .rates .now) in
                     let s = boxOf x k in
                     own-settled s (a .time) Register (n .result) (register-told s _ (n .ensures replies (a .marks .now))) (g .if1 .left)
                     (sent-refused s (a .time) (managerBy s Register) _ q h
-                    (handed-back x (lent replies (a .marks .now) (w .send .last .0) (w .send .last .1 .0) (w .send .last .1 .1 .0) (w .send .last .1 .1 .1 .0)) k (w .send .result .manager) (w .send .result .line) 15 (c .refuse2 .result) refl (back-manager _ _ t Nothing _ q h) (back-line _ _ t Nothing _ q h) (c .refuse2 .ensures))),
+                    (handed-back x (lent replies (a .marks .now) (w .send .last .0) (w .send .last .1 .0) polling (w .send .last .1 .1 .0) (w .send .last .1 .1 .1 .0)) k (w .send .result .manager) (w .send .result .line) 15 (c .refuse2 .result) refl refl (back-manager _ _ t Nothing _ q h) (back-line _ _ t Nothing _ q h) (c .refuse2 .ensures))),
               ),
             ),
           ),
@@ -106,19 +105,19 @@ returns-2 c =
       ),
     )
 
--- src/registering.rt:62:9
+-- src/registering.rt:72:9
 register-requires : tie.Need-register-requires
 register-requires c κs = search needs
 
--- src/registering.rt:65:9
+-- src/registering.rt:75:9
 reporting-requires : tie.Need-reporting-requires
 reporting-requires c κs = search needs
 
--- src/registering.rt:66:5
+-- src/registering.rt:76:5
 accept-requires : tie.Need-accept-requires
 accept-requires c κs = search needs
 
--- src/registering.rt:19:1
+-- src/registering.rt:20:1
 returns-3 : tie.Need-returns-3
 unfolding managerBy
 returns-3 c =
@@ -142,14 +141,13 @@ returns-3 c =
               λ y. e .1 .1 .1 .0 (ap (λ (u : Summary). u .ran) (sym f) ∙ y),
               (
                 λ y. e .1 .1 .1 .1 .0 (ap (λ (u : Summary). u .ran) (sym f) ∙ y),
-                λ replies.
-                    let x = lent replies (a .marks .now) (a .table .now) (a .slots .now) (a .pids .now) (a .rates .now) in
+                λ replies polling.
+                    let x = lent replies (a .marks .now) (a .table .now) (a .slots .now) polling (a .pids .now) (a .rates .now) in
                     let s = boxOf x k in
                     let z = sym (n .ensures replies (a .marks .now)) ∙ g .if1 .left in
-                    let r = d .register .ensures .1 replies in
                     own-settled s (a .time) Register (n .result) (register-told s _ (n .ensures replies (a .marks .now))) (g .if1 .left)
                     (sent-done s (a .time) (managerBy s Register) _ (e .1 .1 .1 .1 .1) (o .if2 .left)
-                    (rw (c .accept .ensures, c .before .reporting .ensures, r ∙ registered-desk (s .desk) z, ap (λ (y : Desk). y .given) r ∙ registered-given (s .desk) z))),
+                    (registered x (lent replies (d .register .last .0) (w .send .last .0) (w .send .last .1 .0) polling (w .send .last .1 .1 .0) (w .send .last .1 .1 .1 .0)) k (a .time) (w .send .result .manager) (w .send .result .line) (w .send .result .summary) (c .accept .result) (d .register .result) z (d .register .ensures .1 replies) (rw (c .accept .ensures, c .before .reporting .ensures)))),
               ),
             ),
           ),

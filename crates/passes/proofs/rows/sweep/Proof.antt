@@ -9,33 +9,48 @@ use Rattle.control.specs.Told.{told-none}
 use Rattle.control.specs.Outbox.{send-none}
 use Rattle.pid_table.specs.Entry.{speed}
 use Rattle.passes.specs.Sweep.{entryAfter, sweepOf, sweepFrom, sweep-start}
-use Rattle.passes.specs.Rows.{ledgerOf, rows-end, pass-turn, pass-rest}
+use Rattle.passes.specs.Rows.{ledgerOf, rows-end, column-near, pass-turn, pass-rest}
 use Rattle.passes.proofs.rows.sweep.Statement.{statement}
 use Rattle.passes.proofs.rows.sweep.Tie as tie
 
 abbrev Inv-loop : tie.InvT-loop
-Inv-loop table₀ outbox₀ pass terms settings wishes i₀ table outbox i = (i ≤ 256) × (length table ≡ 256) × (sweepFrom (entryAfter pass terms) i (ledgerOf table outbox) ≡ sweepOf (entryAfter pass terms) (ledgerOf table₀ outbox₀))
+Inv-loop table₀ outbox₀ pass terms settings wishes column i₀ table outbox i = (i ≤ 256) × (length table ≡ 256) × (sweepFrom (entryAfter pass terms) i (ledgerOf table outbox) ≡ sweepOf (entryAfter pass terms) (ledgerOf table₀ outbox₀))
 
 abbrev μ-loop : tie.MeasureT-loop
-μ-loop table₀ outbox₀ pass terms settings wishes i₀ table outbox i = 256 - i
+μ-loop table₀ outbox₀ pass terms settings wishes column i₀ table outbox i = 256 - i
 
 wishes-for-requires : tie.Need-wishes-for-requires Inv-loop μ-loop
 wishes-for-requires c κs = search needs
 
+column-of-requires : tie.Need-column-of-requires Inv-loop μ-loop
+column-of-requires c κs = search needs
+
 loop-holds : tie.Need-loop-holds Inv-loop μ-loop
-loop-holds c = let a = c .before .before .before .args in (omega arith, search needs, sweep-start (entryAfter (a .pass) (a .terms)) (ledgerOf (a .table .now) (a .outbox)))
+loop-holds c = let a = c .before .before .before .before .args in (omega arith, search needs, sweep-start (entryAfter (a .pass) (a .terms)) (ledgerOf (a .table .now) (a .outbox)))
+
+array-read-number : tie.Need-array-read-number Inv-loop μ-loop
+array-read-number c = search needs
+
+mul-rests : tie.Need-mul-rests Inv-loop μ-loop
+mul-rests c = omega arith
+
+mul-rests-2 : tie.Need-mul-rests-2 Inv-loop μ-loop
+mul-rests-2 c = let near = column-near _ _ (c .before .before .column-of .ensures) in omega arith
+
+index-1-rests : tie.Need-index-1-rests Inv-loop μ-loop
+index-1-rests c = omega arith
+
+index-2-rests : tie.Need-index-2-rests Inv-loop μ-loop
+index-2-rests c = column-near _ _ (c .before .before .column-of .ensures)
+
+rests-requires : tie.Need-rests-requires Inv-loop μ-loop
+rests-requires c κs = search needs
 
 mul-row : tie.Need-mul-row Inv-loop μ-loop
 mul-row c = omega arith
 
 element-copy-out-row : tie.Need-element-copy-out-row Inv-loop μ-loop
 element-copy-out-row c = omega arith
-
-array-read-number : tie.Need-array-read-number Inv-loop μ-loop
-array-read-number c = search needs
-
-rests-requires : tie.Need-rests-requires Inv-loop μ-loop
-rests-requires c κs = search needs
 
 unpack-requires : tie.Need-unpack-requires Inv-loop μ-loop
 unpack-requires c κs = search needs
@@ -73,42 +88,44 @@ loop-less c = omega arith
 loop-again : tie.Need-loop-again Inv-loop μ-loop
 loop-again c =
     let a = c .before .before .before .before in
-    let s = a .before .before .before .before .args in
+    let s = a .before .before .before .before .before .args in
     let i = a .loop .i in
     let rows = a .loop .table in
     let o = a .loop .outbox in
     let inv = a .loop .inv in
     let long = inv .1 in
-    let n : ℕ = getD (a .before .wishes-for .result) i 0 in
-    let wanted = a .before .wishes-for .ensures i (omega arith) in
+    let n : ℕ = getD (a .before .before .wishes-for .result) i 0 in
+    let wanted = a .before .before .wishes-for .ensures i (omega arith) in
     ⊎-elim
     (λ w. (
       omega arith,
-      rw (w .8) (simp length-set long),
-      rw (w .8, w .9)
-          (pass-turn (s .pass) (s .terms) i n rows o (omega arith) wanted (w .1 .result) (w .3 .result) (w .2 .result) (w .4 .result) (w .7 .result) (w .1 .ensures) (w .2 .ensures) (w .3 .ensures) (w .4 .ensures) (w .7 .ensures)
+      rw (w .9) (simp length-set long),
+      rw (w .9, w .10)
+          (pass-turn (s .pass) (s .terms) i n rows o (omega arith) wanted (w .2 .result) (w .4 .result) (w .3 .result) (w .5 .result) (w .8 .result) (w .2 .ensures) (w .3 .ensures) (w .4 .ensures) (w .5 .ensures) (w .8 .ensures)
           ∙ inv .2),
     ))
     (⊎-elim
     (λ w.
-    let e = told-none i (speed (w .1 .result)) (speed (w .3 .result)) (sym (w .5 .ensures) ∙ not-false (w .5 .result) (w .6 .left)) in (
+    let e = told-none i (speed (w .2 .result)) (speed (w .4 .result)) (sym (w .6 .ensures) ∙ not-false (w .6 .result) (w .7 .left)) in (
       omega arith,
-      rw (w .7) (simp length-set long),
-      rw (w .7, w .8)
-          (pass-turn (s .pass) (s .terms) i n rows o (omega arith) wanted (w .1 .result) (w .3 .result) (w .2 .result) (w .4 .result) o (w .1 .ensures) (w .2 .ensures) (w .3 .ensures) (w .4 .ensures) (rw e (sym (send-none o)))
+      rw (w .8) (simp length-set long),
+      rw (w .8, w .9)
+          (pass-turn (s .pass) (s .terms) i n rows o (omega arith) wanted (w .2 .result) (w .4 .result) (w .3 .result) (w .5 .result) o (w .2 .ensures) (w .3 .ensures) (w .4 .ensures) (w .5 .ensures) (rw e (sym (send-none o)))
           ∙ inv .2),
     ))
     (λ w. (
       omega arith,
       rw (w .1) long,
-      rw (w .1, w .2) (pass-rest (s .pass) (s .terms) i n rows o (omega arith) wanted (sym (c .before .rests .ensures) ∙ not-false (c .before .rests .result) (w .0 .left)) ∙ inv .2),
+      rw (w .1, w .2)
+          (pass-rest (s .pass) (s .terms) i n rows o (omega arith) wanted (rw (← a .before .column-of .ensures) (sym (c .before .rests .ensures) ∙ not-false (c .before .rests .result) (w .0 .left)))
+          ∙ inv .2),
     )))
     (c .if1 .came)
 
 returns : tie.Need-returns Inv-loop μ-loop
 returns c =
     let a = c .before in
-    let s = a .before .before .before .before .args in
+    let s = a .before .before .before .before .before .args in
     let long = a .loop .inv .1 in
     (long, sym (rows-end (entryAfter (s .pass) (s .terms)) (a .loop .i) (a .loop .table) (a .loop .outbox) (omega arith)) ∙ a .loop .inv .2)
 
@@ -119,11 +136,16 @@ sweep-spec =
     Inv-loop
     μ-loop
     wishes-for-requires
+    column-of-requires
     loop-holds
+    array-read-number
+    mul-rests
+    mul-rests-2
+    index-1-rests
+    index-2-rests
+    rests-requires
     mul-row
     element-copy-out-row
-    array-read-number
-    rests-requires
     unpack-requires
     wish-in-requires
     entry-by-requires
