@@ -1,25 +1,26 @@
 -- Lists and table agree once the messages that wait are taken: what that says of line, manager and lists, and that
 -- each way of changing them keeps it.
 use mathlib.Core.Bool.{false}
-use mathlib.Core.List.{List, [], _∷_}
+use mathlib.Core.List.{List, [], _∷_, _++_}
 use mathlib.Core.Path.{_≡_}
 use Prim.Native.Nat.{ℕ, _+_, _-_, _≤_}
 use native.Mathlib.Omega.{arith}
 use lib.Dec.{ltb}
-use lib.ListN.{length}
+use lib.ListN.{length, length-append}
 use borrow.Author.Tests.{ltb-true, ltb-false}
 use Rattle.base.specs.Choice.{cases}
+use Rattle.base.specs.Times.{times, times-append}
 use Rattle.control.specs.Names.{Named, named-append, named-first, named-rest}
 use Rattle.control.specs.Outbox.{messages}
-use Rattle.control.specs.Speed.{Speed, after, afterAll, Agree, after-append}
+use Rattle.control.specs.Speed.{Speed, fast, slow, untracked, inFast, inSlow, after, afterAll, Agree, after-append}
 use Rattle.control.specs.declared.DongleMessage.{DongleMessage}
 use Rattle.control_line.specs.Laws.{push-all, take-first, take-sound}
-use Rattle.control_line.specs.Laws as line
-use Rattle.control_line.specs.Ring.{freeOf, pushAllOf, takeOf, waiting}
+use Rattle.control_line.specs.Ring.{Sound, freeOf, pushAllOf, takeOf, waiting}
 use Rattle.control_line.specs.declared.ControlLine.{ControlLine}
-use Rattle.manager.specs.Laws.{Tells}
+use Rattle.manager.specs.Tells.{Tells}
 use Rattle.manager.specs.declared.Answer.{Answer as Managed}
-use Rattle.passes.specs.Laws.{speedAt}
+use Rattle.passes.specs.Sweep.{speedAt}
+use Rattle.pid_list.specs.Pigeons.{pigeons}
 use Rattle.pid_list.specs.Rules.{entries}
 use Rattle.pid_list.specs.declared.PidList.{PidList}
 use Rattle.pid_table.specs.declared.PidInfo.{PidInfo}
@@ -30,7 +31,7 @@ use Rattle.poller.specs.declared.Poller.{Poller}
 
 -- The lists say speeds of which the messages that wait, taken in order, make what the table says.
 pub record Agreed (l : ControlLine) (table : List PidInfo) (fast slow : PidList) : Type 0 where
-  pub line-sound : line.Sound l
+  pub line-sound : Sound l
   pub table-whole : length table ≡ 256
   pub lists-sound : Both fast slow
   pub speeds : ℕ → Speed
@@ -90,6 +91,22 @@ module _ (l : ControlLine) (table : List PidInfo) (fast slow : PidList) (g : Agr
   agreed-settled e q =
       let c : g .speeds q ≡ speedAt table q = (let c = g .coming q in rw e at c) in
       rw (← c) (g .listed q)
+
+-- No PID stands twice within or across the lists, so that both together have at most 256 entries.
+speed-once : (s : Speed) → inFast s + inSlow s ≤ 1
+speed-once fast = omega arith
+speed-once slow = omega arith
+speed-once untracked = omega arith
+
+pub listed-few : {l : ControlLine} {table : List PidInfo} {f s : PidList} → Agreed l table f s → length (entries f) + length (entries s) ≤ 256
+listed-few {f = f} {s = s} g =
+    let both = entries f ++ entries s in
+    let past : (q : ℕ) → 256 ≤ q → times q both ≡ 0
+    = λ q h. let a = g .lists-sound .fast-sound .bytes q h in let b = g .lists-sound .slow-sound .bytes q h in omega (arith, times-append q (entries f) (entries s)) in
+    let once : (q : ℕ) → times q both ≤ 1
+    = λ q. let x = g .listed q in let a = x .in-fast in let b = x .in-slow in omega (arith, times-append q (entries f) (entries s), speed-once (g .speeds q)) in
+    let n = pigeons 257 256 both (omega arith) once (λ q h. past q (omega arith)) (past 256 (omega arith)) in
+    omega (arith, length-append (entries f) (entries s))
 
 -- `next` moves the lists' indexes alone.
 pub kept-agreed : {l : ControlLine} {table : List PidInfo} {p r : Poller} → Kept p r → Agreed l table (p .fast) (p .slow) → Agreed l table (r .fast) (r .slow)

@@ -18,15 +18,16 @@ use Rattle.control.specs.Speed.{Speed, Agree}
 use Rattle.control_line.specs.Ring.{waiting}
 use Rattle.delivery.specs.Rules.{pidAt, valueAt}
 use Rattle.manager.specs.Calls.{startOf as startManager, handleOf}
+use Rattle.manager.specs.declared.Answer.{Answer as Managed}
 use Rattle.manager.specs.declared.Event.{Event as ManagerEvent}
 use Rattle.manager.specs.declared.Event.the-variants as event
 use Rattle.manager.specs.declared.Manager.{Manager}
-use Rattle.passes.specs.Laws.{speedAt}
+use Rattle.passes.specs.Sweep.{speedAt}
 use Rattle.pid_list.specs.Rules.{entries}
 use Rattle.rounds.specs.declared.Outcome.{Outcome}
 use Rattle.reply.specs.declared.Response.{Response}
 use Rattle.triggers.specs.Rules.{switchOf}
-use Rattle.obd2.specs.Call.{Call, manager, cache, settings, takeControl, link, round, Register, Leave, Respond, Changed, Waiting, Consumed, Tick, next, result, Calls}
+use Rattle.obd2.specs.Call.{Call, manager, cache, settings, takeControl, link, round, ManagerCall, Register, Leave, Respond, Changed, Waiting, Consumed, Tick, next, result, Calls}
 use Rattle.obd2.specs.History.{startOf, step, run, Event, happened, acceptedBy, accepted}
 use Rattle.obd2.specs.Refusals.{roundOpen, resultDue}
 use Rattle.obd2.specs.declared.Answer.{Answer}
@@ -38,24 +39,37 @@ pub record Reading : Type 0 where
   pub profiles : Profiles
   pub settings : Settings
 
--- The manager told an event; then it does maintenance, if that is due. Both go by the profiles after the call.
-abbrev pub handled : Reading → ℕ → Profiles → ManagerEvent → Reading
-handled r t ps e = record { manager = handleOf (r .manager) (record { profiles = ps; settings = r .settings; now = t }) e .manager; profiles = ps; settings = r .settings }
-
 -- The profiles after the values of the k PIDs of a response from place i on.
 unfoldable pub switched : ℕ → ℕ → Response → Profiles → Profiles
 switched zero i r ps = ps
 switched (suc k) i r ps = switched k (suc i) r (switchOf (pidAt r i) (valueAt r i) ps)
 
--- An accepted call, by the rules under "PID table (manager)".
+-- A manager's call, by the rules under "PID table (manager)": the profiles after it, and its event.
+unfoldable pub profilesAfter : Profiles → ManagerCall → Profiles
+profilesAfter ps Register = ps
+profilesAfter ps (Leave c) = ps
+profilesAfter ps (Respond r) = switched (r .count) 0 r ps
+profilesAfter ps (Changed new) = new
+profilesAfter ps (Waiting p) = ps
+profilesAfter ps (Consumed p w) = ps
+profilesAfter ps Tick = ps
+
+unfoldable pub eventBy : ManagerCall → ManagerEvent
+eventBy Register = event.Nothing
+eventBy (Leave c) = event.Nothing
+eventBy (Respond r) = event.Nothing
+eventBy (Changed new) = event.ProfilePidsChanged
+eventBy (Waiting p) = event.Waiting p
+eventBy (Consumed p w) = event.Consumed p w
+eventBy Tick = event.Nothing
+
+-- The manager told the event; then it does maintenance, if that is due. Both go by the profiles after the call.
+abbrev pub managedBy : Reading → ℕ → ManagerCall → Managed
+managedBy r t c = handleOf (r .manager) (record { profiles = profilesAfter (r .profiles) c; settings = r .settings; now = t }) (eventBy c)
+
+-- An accepted call.
 unfoldable pub readCall : Reading → Call → Reading
-readCall r (manager t Register) = handled r t (r .profiles) event.Nothing
-readCall r (manager t (Leave c)) = handled r t (r .profiles) event.Nothing
-readCall r (manager t (Respond x)) = handled r t (switched (x .count) 0 x (r .profiles)) event.Nothing
-readCall r (manager t (Changed ps)) = handled r t ps event.ProfilePidsChanged
-readCall r (manager t (Waiting p)) = handled r t (r .profiles) (event.Waiting p)
-readCall r (manager t (Consumed p w)) = handled r t (r .profiles) (event.Consumed p w)
-readCall r (manager t Tick) = handled r t (r .profiles) event.Nothing
+readCall r (manager t c) = record { manager = managedBy r t c .manager; profiles = profilesAfter (r .profiles) c; settings = r .settings }
 readCall r (cache t c) = r
 readCall r (settings t st) = record { manager = r .manager; profiles = r .profiles; settings = st }
 readCall r (takeControl t) = r
@@ -113,14 +127,17 @@ unfoldable pub ending : List Outcome → State → List Call
 ending [] s = []
 ending (o ∷ os) s = pick (roundOpen s) (due o s ∷ ending os (step s (due o s) .state)) []
 
--- Whatever the results, at most 1,026 calls end an open round.
+-- Whatever the results, as many calls end an open round: a `next` and a result for each of 256 PIDs, and the `next` that ends it.
+abbrev pub mostCalls : ℕ
+mostCalls = 513
+
 pub record RoundEnds (s : State) (os : List Outcome) : Type 0 where
   pub of-round : OfRound (ending os s)
-  pub few : length (ending os s) ≤ 1026
+  pub few : length (ending os s) ≤ mostCalls
   pub closed : roundOpen (run s (ending os s)) ≡ false
 
 pub record Claim : Type 0 where
   pub agreement : (t : ℕ) (st : Settings) (ps : Profiles) (cs ds : List Call) → Calls cs → OfRound ds
       → roundOpen (run (boxAfter t st ps cs) ds) ≡ false → AgreementAfter t st ps cs ds
-  pub rounds-end : (t : ℕ) (st : Settings) (ps : Profiles) (cs : List Call) → Calls cs → (os : List Outcome) → length os ≡ 1026
+  pub rounds-end : (t : ℕ) (st : Settings) (ps : Profiles) (cs : List Call) → Calls cs → (os : List Outcome) → length os ≡ mostCalls
       → RoundEnds (boxAfter t st ps cs) os

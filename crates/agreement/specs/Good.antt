@@ -3,12 +3,11 @@
 use mathlib.Core.Bool.{false}
 use mathlib.Core.List.{List, [], _∷_}
 use mathlib.Core.Path.{_≡_, refl, sym}
-use Prim.Native.Nat.{ℕ, _≤_}
+use Prim.Native.Nat.{ℕ, _+_, _≤_}
 use native.Mathlib.Omega.{arith}
 use lib.Dec.{eqb}
-use lib.ListN.{length}
 use borrow.Author.Tests.{le-ltb, ltb-false, eqb-true}
-use Rattle.base.specs.Choice.{cases}
+use Rattle.base.specs.Choice.{one, cases}
 use Rattle.config.specs.Blank.{noProfiles}
 use Rattle.config.specs.Defaults.{defaultSettings}
 use Rattle.config.specs.declared.Profiles.{Profiles}
@@ -20,14 +19,15 @@ use Rattle.control_line.specs.Laws.{empty-sound, empty-waiting, take-first, tak
 use Rattle.control_line.specs.Ring.{emptyLine, freeOf, waiting}
 use Rattle.link.specs.Rules.{isNo}
 use Rattle.manager.specs.Calls.{noTable, startOf as startManager}
-use Rattle.manager.specs.Laws.{Names, handle-tells, start-tells, none-speed, no-whole}
+use Rattle.manager.specs.Laws.{handle-tells, start-tells, none-speed, no-whole}
+use Rattle.manager.specs.Tells.{Names}
 use Rattle.passes.specs.declared.Terms.{Terms}
 use Rattle.pid_list.specs.Rules.{emptyList}
 use Rattle.poll_laws.specs.Keeps.{next-kept}
 use Rattle.poll_laws.specs.Lists.{start-both, start-agree}
 use Rattle.poll_laws.specs.Rounds.{queriesLeft, Stride, ended, issued, next-stride, result-settled, begin-left}
 use Rattle.poller.specs.Calls.{multiAllowed, connectOf, failOf, reconnectOf, beginOf}
-use Rattle.poller.specs.State.{startOf as startPoller}
+use Rattle.poller.specs.State.{dueOf, startOf as startPoller}
 use Rattle.poller.specs.declared.Poller.{Poller}
 use Rattle.rounds.specs.Next.{nextOf}
 use Rattle.rounds.specs.Result.{resultOf}
@@ -40,10 +40,14 @@ use Rattle.obd2.specs.Keeps.{after, run-keeps}
 use Rattle.obd2.specs.Refusals.{latest, badTime, startRefusal, crowded, refusalOf}
 use Rattle.obd2.specs.State.{managed, started}
 use Rattle.obd2.specs.declared.State.{State}
-use Rattle.agreement.specs.Agreed.{Agreed, managed-agreed, taken-agreed, kept-agreed}
+use Rattle.agreement.specs.Agreed.{Agreed, managed-agreed, taken-agreed, kept-agreed, listed-few}
+
+-- The queries of a round that have not come back, at most: those left to it and the one whose result is due.
+abbrev pub outstanding : Poller → ℕ
+outstanding p = queriesLeft p + one (dueOf (p .round .phase))
 
 abbrev Kept : State → Type 0
-Kept s = Agreed (s .line) (s .manager .table) (s .poller .fast) (s .poller .slow) × (queriesLeft (s .poller) ≤ 512)
+Kept s = Agreed (s .line) (s .manager .table) (s .poller .fast) (s .poller .slow) × (outstanding (s .poller) ≤ 256)
 
 pub record Good (s : State) : Type 0 where
   pub kept : Kept s
@@ -60,21 +64,21 @@ begin-lists p st = cases _ (p .link .connected)
     (λ e. rw e (cases _ (multiAllowed (st .multi) (isNo (p .link .features .multi))) (λ f. rw f (refl, refl)) (λ f. rw f (refl, refl))))
     (λ e. rw e (refl, refl))
 
-stride-few : (p : Poller) (n : ℕ) (r : Stepped) → Stride p n r → n ≤ 512 → queriesLeft (r .poller) ≤ 512
+stride-few : (p : Poller) (n : ℕ) (r : Stepped) → Stride p n r → n ≤ 256 → outstanding (r .poller) ≤ 256
 stride-few p n r (ended e f) h = rw f (omega arith)
-stride-few p n r (issued e f i g) h = omega arith
+stride-few p n r (issued e f i g) h = rw f (omega arith)
 
 module _ (s : State) where
   -- A PID that a caller hands in has a place in the table.
-  fit-names : (t : Terms) (w : length (s .manager .table) ≡ 256) (c : ManagerCall) → FitManager c → Names (s .manager) t w (managerBy s c .event)
+  fit-names : (c : ManagerCall) → FitManager c → Names (managerBy s c .event)
   unfolding managerBy
-  fit-names t w Register f = tt
-  fit-names t w (Leave c) f = tt
-  fit-names t w (Respond r) f = tt
-  fit-names t w (Changed ps) f = tt
-  fit-names t w (Waiting p) f = f
-  fit-names t w (Consumed p d) f = f
-  fit-names t w Tick f = tt
+  fit-names Register f = tt
+  fit-names (Leave c) f = tt
+  fit-names (Respond r) f = tt
+  fit-names (Changed ps) f = tt
+  fit-names (Waiting p) f = f
+  fit-names (Consumed p d) f = f
+  fit-names Tick f = tt
 
   taken-kept : Kept s → (ms : List DongleMessage) → waiting (s .line) ≡ ms → Kept (takes s .state)
   taken-kept k [] e = rw (take-none (s .line) e) k
@@ -86,7 +90,7 @@ module _ (s : State) where
       let r = managerBy s c in
       let terms : Terms = record { profiles = r .profiles; settings = s .settings; now = t } in
       let w = k .0 .table-whole in
-      (managed-agreed _ _ _ _ (k .0) _ (managing s t r) (handle-tells (s .manager) terms w (r .event) (fit-names terms w c f)) (manager-room s t c e), k .1)
+      (managed-agreed _ _ _ _ (k .0) _ (managing s t r) (handle-tells (s .manager) terms w (r .event) (fit-names c f)) (manager-room s t c e), k .1)
   done-kept (cache t c) f k e = k
   done-kept (settings t st) f k e = k
   done-kept (takeControl t) f k e = taken-kept k (waiting (s .line)) refl
@@ -96,9 +100,13 @@ module _ (s : State) where
   done-kept (round t Begin) f k e =
       let b = begin-lists (s .poller) (s .settings) in
       let l = k .0 .lists-sound in
-      (rw (b .0, b .1) (k .0), begin-left (s .poller) (s .settings) (l .fast-sound .whole) (l .slow-sound .whole) .2)
-  done-kept (round t Next) f k e = (kept-agreed (next-kept (s .poller) t) (k .0), stride-few (s .poller) _ (nextOf (s .poller) t) (next-stride (s .poller) t) (k .1))
-  done-kept (round t (Result o)) f k e = (k .0, (let r = result-settled (s .poller) t o .fewer in let n = k .1 in omega arith))
+      let q = begin-left (s .poller) (s .settings) 256 (l .fast-sound .whole) (l .slow-sound .whole) (listed-few (k .0)) (omega arith) in
+      let n = q .2 in
+      (rw (b .0, b .1) (k .0), rw (q .1) (omega arith))
+  done-kept (round t Next) f k e =
+      let n = k .1 in
+      (kept-agreed (next-kept (s .poller) t) (k .0), stride-few (s .poller) _ (nextOf (s .poller) t) (next-stride (s .poller) t) (omega arith))
+  done-kept (round t (Result o)) f k e = (k .0, (let r = result-settled (s .poller) t o in let m = r .fewer in let n = k .1 in rw (r .taken) (omega arith)))
 
 -- Every list of calls.
 pub run-good : (cs : List Call) (s : State) → Calls cs → Good s → Good (run s cs)

@@ -10,14 +10,14 @@ use Rattle.delivery.specs.Rules.{turnOf, turnsOf, responseRefusal, responseOf, 
 use Rattle.delivery.specs.declared.Answered.{Answered as Delivered}
 use Rattle.reply.specs.declared.Response.{Response}
 use Rattle.obd2.specs.Accepted.{manager-free}
-use Rattle.obd2.specs.Call.{Call, manager, cache, settings, takeControl, link, round, Register, Leave, Respond, Changed, Waiting, Consumed, Tick}
-use Rattle.obd2.specs.Done.{managerBy, doneOf}
+use Rattle.obd2.specs.Call.{Call, manager, cache, settings, takeControl, link, round, ManagerCall, Register, Leave, Respond, Changed, Waiting, Consumed, Tick}
+use Rattle.obd2.specs.Done.{managerBy, managing, doneOf}
 use Rattle.obd2.specs.History.{startOf, step, run, happened}
 use Rattle.obd2.specs.Keeps.{after, step-reads}
 use Rattle.obd2.specs.Refusals.{startRefusal, managerRows, refusalOf}
 use Rattle.obd2.specs.State.{managed, started}
 use Rattle.obd2.specs.declared.State.{State}
-use Rattle.agreement.specs.Claim.{Reading, switched, readCall, read, readStart}
+use Rattle.agreement.specs.Claim.{Reading, switched, profilesAfter, eventBy, managedBy, readCall, read, readStart}
 
 -- The reading of a box.
 abbrev pub readOff : State → Reading
@@ -34,15 +34,32 @@ response-switched : (s : State) (t : ℕ) (r : Response) → refusalOf s (manage
 unfolding responseOf responseRefusal managerRows
 response-switched s t r e = rw (manager-free s t (Respond r) e) (sym (turns-switched (r .count) 0 r (unanswered 0 (s .desk) (s .profiles))))
 
-done-read : (s : State) (c : Call) → refusalOf s c ≡ 0 → readCall (readOff s) c ≡ readOff (after s c)
-unfolding doneOf managerBy readCall managed
-done-read s (manager t Register) e = refl
-done-read s (manager t (Leave c)) e = refl
-done-read s (manager t (Respond r)) e = rw (response-switched s t r e)
-done-read s (manager t (Changed ps)) e = refl
-done-read s (manager t (Waiting p)) e = refl
-done-read s (manager t (Consumed p w)) e = refl
-done-read s (manager t Tick) e = refl
+profiles-are : (s : State) (t : ℕ) (c : ManagerCall) → refusalOf s (manager t c) ≡ 0 → profilesAfter (s .profiles) c ≡ managerBy s c .profiles
+unfolding managerBy profilesAfter
+profiles-are s t Register e = refl
+profiles-are s t (Leave c) e = refl
+profiles-are s t (Respond r) e = response-switched s t r e
+profiles-are s t (Changed ps) e = refl
+profiles-are s t (Waiting p) e = refl
+profiles-are s t (Consumed p w) e = refl
+profiles-are s t Tick e = refl
+
+event-is : (s : State) (c : ManagerCall) → eventBy c ≡ managerBy s c .event
+unfolding managerBy eventBy
+event-is s Register = refl
+event-is s (Leave c) = refl
+event-is s (Respond r) = refl
+event-is s (Changed ps) = refl
+event-is s (Waiting p) = refl
+event-is s (Consumed p w) = refl
+event-is s Tick = refl
+
+pub managed-is : (s : State) (t : ℕ) (c : ManagerCall) → refusalOf s (manager t c) ≡ 0 → managedBy (readOff s) t c ≡ managing s t (managerBy s c)
+managed-is s t c e = rw (profiles-are s t c e, event-is s c)
+
+pub done-read : (s : State) (c : Call) → refusalOf s c ≡ 0 → readCall (readOff s) c ≡ readOff (after s c)
+unfolding doneOf readCall managed
+done-read s (manager t c) e = rw (managed-is s t c e, profiles-are s t c e)
 done-read s (cache t c) e = refl
 done-read s (settings t st) e = refl
 done-read s (takeControl t) e = refl

@@ -25,7 +25,7 @@ use Rattle.obd2.specs.History.{step, run}
 use Rattle.obd2.specs.Keeps.{after, step-done, step-keeps}
 use Rattle.obd2.specs.Refusals.{latest, roundOpen, resultDue, roundRows, rowsOf, refusalOf}
 use Rattle.obd2.specs.declared.State.{State}
-use Rattle.agreement.specs.Claim.{OfRound, none, asks, tells, taking, due, ending}
+use Rattle.agreement.specs.Claim.{OfRound, none, asks, tells, taking, due, ending, mostCalls}
 use Rattle.agreement.specs.Good.{Good, own-time}
 
 -- How many calls an open round may still take, at most: two for each query left, one to end, and one for a result that is due.
@@ -69,12 +69,12 @@ ends (o ∷ os) s h k =
     rw a (due-round o s (r .0), omega arith, r .2))
     (λ a. rw a (none, omega arith, a))
 
--- A good box has at most 1,026 left.
-pub few-left : (s : State) → Good s → callsLeft (s .poller) ≤ 1026
+-- A good box has few left.
+pub few-left : (s : State) → Good s → callsLeft (s .poller) ≤ mostCalls
 few-left s g =
     let h = g .kept .1 in
     cases _ (roundOpen s)
-    (λ a. rw a (cases _ (resultDue s) (λ b. rw b (omega arith)) (λ b. rw b (omega arith))))
+    (λ a. rw a (cases _ (resultDue s) (λ b. let k = rw b at h in rw b (omega arith)) (λ b. let k = rw b at h in rw b (omega arith))))
     (λ a. rw a (omega arith))
 
 -- ---- the waiting messages

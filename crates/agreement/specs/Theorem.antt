@@ -10,7 +10,7 @@ use Rattle.config.specs.declared.Settings.{Settings}
 use Rattle.control.specs.Speed.{Agree}
 use Rattle.control_line.specs.Ring.{waiting}
 use Rattle.manager.specs.declared.Manager.{Manager}
-use Rattle.passes.specs.Laws.{speedAt}
+use Rattle.passes.specs.Sweep.{speedAt}
 use Rattle.pid_list.specs.Rules.{entries}
 use Rattle.rounds.specs.declared.Outcome.{Outcome}
 use Rattle.obd2.specs.Call as calls
@@ -21,7 +21,7 @@ use Rattle.obd2.specs.Keeps.{step-leaves}
 use Rattle.obd2.specs.Refusals.{roundOpen}
 use Rattle.obd2.specs.declared.State.{State}
 use Rattle.agreement.specs.Agreed.{agreed-settled}
-use Rattle.agreement.specs.Claim.{Reading, read, OfRound, none, asks, tells, taking, takeAll, boxAfter, readAfter, AgreementAfter, RoundEnds, Claim}
+use Rattle.agreement.specs.Claim.{Reading, read, OfRound, none, asks, tells, taking, takeAll, boxAfter, readAfter, AgreementAfter, mostCalls, RoundEnds, Claim}
 use Rattle.agreement.specs.Good.{Good, run-good, start-good}
 use Rattle.agreement.specs.Reads.{readOff, run-read, start-read}
 use Rattle.agreement.specs.Settles.{ends, few-left, takes-fit, take-all}
@@ -66,7 +66,7 @@ module _ (t : ℕ) (st : Settings) (ps : Profiles) (cs : List Call) (fit : Calls
               (agreed-settled _ _ _ _ (g .kept .0) (all-taken .0)),
         )
 
-  rounds-end-after : (os : List Outcome) → length os ≡ 1026 → RoundEnds (boxAfter t st ps cs) os
+  rounds-end-after : (os : List Outcome) → length os ≡ mostCalls → RoundEnds (boxAfter t st ps cs) os
   rounds-end-after os n =
       let s = boxAfter t st ps cs in
       let few = few-left s box-good in

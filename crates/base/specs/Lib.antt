@@ -3,6 +3,7 @@ pub mod Bytes
 pub mod Choice
 pub mod Count
 pub mod Each
+pub mod Letters
 pub mod Refusal
 pub mod Search
 pub mod Table

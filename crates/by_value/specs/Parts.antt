@@ -84,8 +84,8 @@ box-again s x p = rw (p .replies, p .marks, p .table, p .slots, p .polled, p .kn
 -- which y are after it, and left is the area then.
 pub by-parts : (s : State) (x : Lent) (k : Core) → Parts s x → k ≡ coreOf s
     → (t : ℕ) (c : Call) (b : Brought) (cmd area left : List ℕ) (a r : Answered) → r ≡ a
-    → (a ≡ step (boxOf x k) (callOf t c b cmd area)) × ((left ≡ areaOf (boxOf x k) t c b cmd area) × Promised (boxOf x k) (callOf t c b cmd area) (a .answer))
-    → (r ≡ step s (callOf t c b cmd area)) × ((left ≡ areaOf s t c b cmd area) × Promised s (callOf t c b cmd area) (r .answer))
+    → (a ≡ step (boxOf x k) (callOf t c b cmd area)) × ((left ≡ areaOf (boxOf x k) t c b cmd area) × Promised (boxOf x k) (callOf t c b cmd area) a)
+    → (r ≡ step s (callOf t c b cmd area)) × ((left ≡ areaOf s t c b cmd area) × Promised s (callOf t c b cmd area) r)
 by-parts s x k p e t c b cmd area left a r f h =
-    subst (λ (y : Answered). (y ≡ step s (callOf t c b cmd area)) × ((left ≡ areaOf s t c b cmd area) × Promised s (callOf t c b cmd area) (y .answer))) (sym f)
-    (subst (λ (z : State). (a ≡ step z (callOf t c b cmd area)) × ((left ≡ areaOf z t c b cmd area) × Promised z (callOf t c b cmd area) (a .answer))) (ap (boxOf x) e ∙ box-again s x p) h)
+    subst (λ (y : Answered). (y ≡ step s (callOf t c b cmd area)) × ((left ≡ areaOf s t c b cmd area) × Promised s (callOf t c b cmd area) y)) (sym f)
+    (subst (λ (z : State). (a ≡ step z (callOf t c b cmd area)) × ((left ≡ areaOf z t c b cmd area) × Promised z (callOf t c b cmd area) a)) (ap (boxOf x) e ∙ box-again s x p) h)

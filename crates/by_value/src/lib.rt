@@ -30,10 +30,9 @@ ghost use mathlib.Core.Path.{_≡_};
 ghost use Rattle.by_value.specs.Parts.{deskCore, linkCore, pollerCore, polledIn, knownIn, coreOf};
 ghost use Rattle.desk.specs.Core.{deskOf};
 ghost use Rattle.dispatch.specs.Dispatch.{callOf, areaOf, Promised};
-ghost use Rattle.obd2.specs.Answers.{numberIn};
+ghost use Rattle.obd2.specs.Answers.{PromisedStart};
 ghost use Rattle.obd2.specs.Core.{lent, boxOf, detailsOf, answeredOf};
 ghost use Rattle.obd2.specs.History.{startOf, step};
-ghost use Rattle.obd2.specs.Refusals.{startRefusal};
 ghost use Rattle.poller.specs.Core.{held, pollerOf};
 
 // The desk but for its replies and marks.
@@ -289,7 +288,7 @@ fn answered_of(
 // The box's start.
 pub fn start(time: u64, settings: Settings, profiles: Profiles) -> Answered
     ensures { λ r. ⌜ r ≡ startOf time settings profiles ⌝ }
-    ensures { λ r. ⌜ numberIn (r .answer) ≡ startRefusal time settings profiles ⌝ }
+    ensures { λ r. ⌜ PromisedStart time settings profiles r ⌝ }
 {
     let mut replies = [[0u8; ROW]; 256];
     let mut marks = [[false; 256]; PLACES];
@@ -340,7 +339,7 @@ pub fn call(
 ) -> Answered
     ensures { λ r. ⌜ r ≡ step state (callOf time call brought (now (cmd .entry)) (now (area .entry))) ⌝ }
     ensures { λ r. ⌜ now (area .exit) ≡ areaOf state time call brought (now (cmd .entry)) (now (area .entry)) ⌝ }
-    ensures { λ r. ⌜ Promised state (callOf time call brought (now (cmd .entry)) (now (area .entry))) (r .answer) ⌝ }
+    ensures { λ r. ⌜ Promised state (callOf time call brought (now (cmd .entry)) (now (area .entry))) r ⌝ }
 {
     let store = state.desk.store;
     let mut replies = reply::rows::pack_all(store);

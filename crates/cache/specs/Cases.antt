@@ -18,7 +18,7 @@ use Rattle.reply.specs.Rules.{emptyReply, noRange, sizeOf, filledOf}
 use Rattle.reply.specs.Laws.{size-empty}
 use Rattle.reply.specs.declared.Reply.{Reply}
 use Rattle.reply.specs.declared.RangeReply.{RangeReply}
-use Rattle.cache.specs.Rules.{rangeCount, rangeOf, rangeStep, commandStep, stepOf, refusedAsk, toldOf, settled, filledBy, otherRefusal, otherOf, otherArea, answerOf, handedOf, afterAsk, busy, askRefusal, askOf, askArea}
+use Rattle.cache.specs.Rules.{rangeCount, rangeOf, rangeStep, commandStep, stepOf, refusedAsk, toldOf, settled, filledBy, otherRefusal, otherOf, otherArea, answerOf, handedOf, afterAsk, busy, askRefusal, askOf, Tells, askArea}
 use Rattle.cache.specs.declared.Step.{Step}
 use Rattle.cache.specs.declared.Step.the-variants.{Disconnected, Empty, Unclear, Stored, ToCache}
 use Rattle.cache.specs.declared.Answer.{Answer}
@@ -186,10 +186,11 @@ module _ (r : Asked) (out : List ℕ) (d : Desk) (t c : ℕ) (rs : List RangeRep
   abbrev Promised : Type 0
   Promised =
       (r ≡ askOf d t c rs s (length area))
-      × ((out ≡ askArea d c rs s area) × (r .refusal ≡ askRefusal d c rs s (length area)))
+      × ((out ≡ askArea d c rs s area) × Tells d c rs s (length area) r)
 
   promised : r ≡ askOf d t c rs s (length area) → out ≡ askArea d c rs s area → Promised
-  promised e f = (e, (f, ap (λ (a : Asked). a .refusal) e ∙ ask-refusal d t c rs s (length area)))
+  unfolding askOf settled
+  promised e f = (e, (f, record { number = ap (λ (a : Asked). a .refusal) e ∙ ask-refusal d t c rs s (length area); values = λ z. rw e (rw z) }))
 
   pub promised-other : (a : Answer) (y : Reply) → busy d c u ≡ false → afterAsk d t c u ≡ d → a ≡ answerOf d c u → y ≡ handedOf d c rs u
       → r ≡ otherOf d c a y (length area) → out ≡ otherArea d c y area → Promised

@@ -17,23 +17,20 @@ use Rattle.clients.specs.declared.Wait.{Wait}
 use Rattle.command.specs.Classify.{commandOf}
 use Rattle.command.specs.declared.Command.{Command}
 use Rattle.command.specs.declared.Command.the-variants as command
-use Rattle.desk.specs.Rules.{registered, clientOf, fresh, waitOf, stored, putClient}
-use Rattle.desk.specs.Laws.{Sound, After, client-number, put-after}
+use Rattle.desk.specs.Rules.{registered, clientOf, fresh, waitOf, putClient}
+use Rattle.desk.specs.Laws.{client-number, put-after}
+use Rattle.desk.specs.Sound.{Sound}
 use Rattle.desk.specs.declared.Desk.{Desk}
 use Rattle.reply.specs.Laws.{filled-long}
 use Rattle.reply.specs.Rules.{sizeOf, joinedOf}
 use Rattle.reply.specs.declared.RangeReply.{RangeReply}
 use Rattle.cache.specs.Rules.{handsOut, settled, answerOf, handedOf, afterAsk, busy, askRefusal, askOf, askArea, rangeOf, rangeStep, commandStep, stepOf, waitAfter}
+use Rattle.cache.specs.After.{AfterAnswer, Handed}
 use Rattle.cache.specs.Cases.{ask-refused, ask-told}
 use Rattle.cache.specs.declared.Step.{Step}
 use Rattle.cache.specs.declared.Step.the-variants.{Disconnected, Empty, Unclear, Stored, ToCache}
 use Rattle.cache.specs.declared.Answer.{Answer}
 use Rattle.cache.specs.declared.Answer.the-variants.{Unable, NoData, Unknown, Range, Reading, Waiting}
-
--- The desk after an answer a to client c at time t, in terms of the desk before.
-abbrev pub AfterAnswer : Desk → ℕ → ℕ → Answer → Desk → Type 0
-AfterAnswer d t c a e =
-    After e (registered d) (λ k p. fresh d k p && not (eqb k c && handsOut a p)) (λ k. pick (eqb k c) (waitAfter t a (waitOf d k)) (waitOf d k)) (stored d)
 
 -- An answer that neither hands out nor begins a wait leaves the desk as it was.
 same-fresh : (f g : Bool) → f ≡ (f && not (g && false))
@@ -125,12 +122,6 @@ module _ (d : Desk) (t c : ℕ) (rs : List RangeReply) (st : Step) (n : ℕ) whe
   pub ask-unchanged : (askRefusal d c rs st n ≡ 0 → ⊥) → askOf d t c rs st n .desk ≡ d
   unfolding askOf settled
   ask-unchanged h = rw (ne-eqb (askRefusal d c rs st n) 0 h)
-
--- A reading that is handed out: by an ask for that PID, of a fresh reply, the newest one.
-pub record Handed (d : Desk) (c : ℕ) (rs : List RangeReply) (st : Step) (p : ℕ) : Type 0 where
-  pub to-cache : st ≡ ToCache p
-  pub was-fresh : fresh d c p ≡ true
-  pub reply-of : handedOf d c rs st ≡ stored d p
 
 pub ask-hands : (d : Desk) (c : ℕ) (rs : List RangeReply) (st : Step) (p : ℕ) → handsOut (answerOf d c st) p ≡ true → Handed d c rs st p
 unfolding answerOf handedOf

@@ -1,9 +1,10 @@
 -- Ask (document 01, "Commands (desk)" and "Client cache"). Collect and give up are `waits`'.
 use mathlib.Core.Bool.{Bool, true, false, not}
 use mathlib.Core.List.{List, [], _∷_}
+use mathlib.Core.Path.{_≡_}
 use Prim.Native.Nat.{ℕ}
 use lib.Dec.{ltb, eqb}
-use lib.ListN.{length, getD, replicate}
+use lib.ListN.{length, getD, take, replicate}
 use Rattle.base.specs.Choice.{pick}
 use Rattle.base.specs.Refusal.{Rows, firstOf}
 use Rattle.clients.specs.Rules.{takenOf, waitingOf}
@@ -125,6 +126,21 @@ askRefusal d c rs s n = firstOf (askRows d c rs s n)
 unfoldable pub askOf : Desk → ℕ → ℕ → List RangeReply → Step → ℕ → Asked
 askOf d t c rs s n =
     settled (askRefusal d c rs s n) d (toldOf (afterAsk d t c s) (answerOf d c s) (handedOf d c rs s))
+
+-- Document 01's values of each answer, with the lengths of a reply's lines: the PID of a reading or of a wait, and those lengths.
+abbrev pub valuesOf : Answer → List ℕ → List ℕ
+valuesOf Unable ls = []
+valuesOf NoData ls = []
+valuesOf Unknown ls = []
+valuesOf Range ls = ls
+valuesOf (Reading p) ls = p ∷ ls
+valuesOf (Waiting p) ls = p ∷ []
+
+-- What an ask answers has document 01's number and, where the ask is accepted, these values.
+pub record Tells (d : Desk) (c : ℕ) (rs : List RangeReply) (s : Step) (n : ℕ) (r : Asked) : Type 0 where
+  pub number : r .refusal ≡ askRefusal d c rs s n
+  pub values : askRefusal d c rs s n ≡ 0
+      → let y = handedOf d c rs s in valuesOf (r .answer) (take (r .lines) (r .lengths)) ≡ valuesOf (answerOf d c s) (take (y .lines) (y .lengths))
 
 unfoldable pub askArea : Desk → ℕ → List RangeReply → Step → List ℕ → List ℕ
 askArea d c rs s area = filledBy (askRefusal d c rs s (length area)) (handedOf d c rs s) area

@@ -15,7 +15,7 @@ ghost use lib.ListN.{length};
 ghost use Rattle.clients.specs.Rules.{places};
 ghost use Rattle.desk.specs.Core.{deskOf};
 ghost use Rattle.cache.specs.declared.Step.the-variants.{ToCache};
-ghost use Rattle.cache.specs.Rules.{stepOf, otherOf, otherArea, askOf, askArea, askRefusal};
+ghost use Rattle.cache.specs.Rules.{stepOf, otherOf, otherArea, askOf, Tells, askArea};
 ghost use Rattle.cache.specs.Asking.{notTold, told, askedIn};
 
 // The refusal is document 01's number, 0 where the ask is accepted. The lines' lengths are of the reply that stands at
@@ -126,7 +126,7 @@ pub fn ask(
     ensures { λ _. ⌜ length (now (marks .exit)) ≡ places ⌝ }
     ensures { λ r. ⌜ askedIn (now (replies .entry)) (now (marks .exit)) r ≡ askOf (deskOf (now (replies .entry)) (now (marks .entry)) core) time number ranges (stepOf connected ranges (now (cmd .entry))) (length (now (area .entry))) ⌝ }
     ensures { λ _. ⌜ now (area .exit) ≡ askArea (deskOf (now (replies .entry)) (now (marks .entry)) core) number ranges (stepOf connected ranges (now (cmd .entry))) (now (area .entry)) ⌝ }
-    ensures { λ r. ⌜ r .refusal ≡ askRefusal (deskOf (now (replies .entry)) (now (marks .entry)) core) number ranges (stepOf connected ranges (now (cmd .entry))) (length (now (area .entry))) ⌝ }
+    ensures { λ r. ⌜ Tells (deskOf (now (replies .entry)) (now (marks .entry)) core) number ranges (stepOf connected ranges (now (cmd .entry))) (length (now (area .entry))) (askedIn (now (replies .entry)) (now (marks .exit)) r) ⌝ }
 {
     let step = super::first_step(connected, ranges, cmd);
     let nothing = reply::empty();

@@ -11,7 +11,8 @@ ghost use lib.ListN.{length};
 ghost use Rattle.clients.specs.Rules.{places};
 ghost use Rattle.obd2.specs.Call.{ask};
 ghost use Rattle.obd2.specs.Core.{Lent, withAsked, boxOf, answeredOf};
-ghost use Rattle.obd2.specs.History.{inTime, lentBy};
+ghost use Rattle.obd2.specs.Answers.{Answers};
+ghost use Rattle.obd2.specs.History.{lentBy};
 ghost use Rattle.obd2.specs.Refusals.{rowRefusal};
 
 // A client's command, answered by what the connection has stored or from the cache. The lent area gets the reply's
@@ -28,7 +29,7 @@ pub fn ask(
 ) -> Told
     requires { ⌜ length (now marks) ≡ places ⌝ }
     ensures { λ _. ⌜ length (now (marks .exit)) ≡ places ⌝ }
-    ensures { λ r. ⌜ ((x : Lent) → answeredOf (withAsked x (now (replies .entry)) (now (marks .exit)) (now (ranges .entry))) r ≡ inTime (boxOf (withAsked x (now (replies .entry)) (now (marks .entry)) (now (ranges .entry))) core) (ask time number (now (cmd .entry)) (now (area .entry)))) ⌝ }
+    ensures { λ r. ⌜ ((x : Lent) → Answers (boxOf (withAsked x (now (replies .entry)) (now (marks .entry)) (now (ranges .entry))) core) (ask time number (now (cmd .entry)) (now (area .entry))) (answeredOf (withAsked x (now (replies .entry)) (now (marks .exit)) (now (ranges .entry))) r)) ⌝ }
     ensures { λ r. ⌜ ((x : Lent) → let s = boxOf (withAsked x (now (replies .entry)) (now (marks .entry)) (now (ranges .entry))) core in let c = ask time number (now (cmd .entry)) (now (area .entry)) in now (area .exit) ≡ lentBy (rowRefusal s c) s c) ⌝ }
 {
     let desk = core.desk;

@@ -9,7 +9,8 @@ ghost use lib.ListN.{length};
 ghost use Rattle.clients.specs.Rules.{places};
 ghost use Rattle.obd2.specs.Call.{collect};
 ghost use Rattle.obd2.specs.Core.{Lent, withDesk, boxOf, answeredOf};
-ghost use Rattle.obd2.specs.History.{inTime, lentBy};
+ghost use Rattle.obd2.specs.Answers.{Answers};
+ghost use Rattle.obd2.specs.History.{lentBy};
 ghost use Rattle.obd2.specs.Refusals.{rowRefusal};
 
 // The reply that the client waits for, into the lent area, and how long it waited.
@@ -23,7 +24,7 @@ pub fn collect(
 ) -> Told
     requires { ⌜ length (now marks) ≡ places ⌝ }
     ensures { λ _. ⌜ length (now (marks .exit)) ≡ places ⌝ }
-    ensures { λ r. ⌜ ((x : Lent) → answeredOf (withDesk x (now (replies .entry)) (now (marks .exit))) r ≡ inTime (boxOf (withDesk x (now (replies .entry)) (now (marks .entry))) core) (collect time number (now (area .entry)))) ⌝ }
+    ensures { λ r. ⌜ ((x : Lent) → Answers (boxOf (withDesk x (now (replies .entry)) (now (marks .entry))) core) (collect time number (now (area .entry))) (answeredOf (withDesk x (now (replies .entry)) (now (marks .exit))) r)) ⌝ }
     ensures { λ r. ⌜ ((x : Lent) → let s = boxOf (withDesk x (now (replies .entry)) (now (marks .entry))) core in let c = collect time number (now (area .entry)) in now (area .exit) ≡ lentBy (rowRefusal s c) s c) ⌝ }
 {
     let desk = core.desk;

@@ -5,11 +5,11 @@ use obd2::telling;
 ghost use mathlib.Core.Path.{_≡_};
 ghost use Rattle.obd2.specs.Call.{giveUp};
 ghost use Rattle.obd2.specs.Core.{Lent, boxOf, answeredOf};
-ghost use Rattle.obd2.specs.History.{inTime};
+ghost use Rattle.obd2.specs.Answers.{Answers};
 
 // The client waits no longer, and is answered NO DATA.
 pub fn give_up(mut core: Core, time: u64, number: u32) -> Told
-    ensures { λ r. ⌜ ((x : Lent) → answeredOf x r ≡ inTime (boxOf x core) (giveUp time number)) ⌝ }
+    ensures { λ r. ⌜ ((x : Lent) → Answers (boxOf x core) (giveUp time number) (answeredOf x r)) ⌝ }
 {
     let desk = core.desk;
     let ended = waits::ending::give_up(desk, number);

@@ -6,6 +6,7 @@ use lib.Dec.{leb, ltb, eqb}
 use lib.ListN.{length, getD, take}
 use Rattle.ascii.specs.Chars.{upper, hexValue}
 use Rattle.base.specs.Choice.{pick}
+use Rattle.base.specs.Letters.{letter, letters}
 use Rattle.command.specs.declared.Command.{Command}
 use Rattle.command.specs.declared.Command.the-variants.{Range, Pid, Unknown}
 
@@ -20,17 +21,17 @@ sameText [] (y ∷ ys) = false
 sameText (x ∷ xs) [] = false
 sameText (x ∷ xs) (y ∷ ys) = eqb (upper x) (upper y) && sameText xs ys
 
--- "0100, 0120 .. 01E0"; 48 is `0`, 49 `1`, 65 `A`
+-- "0100, 0120 .. 01E0"
 unfoldable pub rangeTexts : List (List ℕ)
 rangeTexts =
-    (48 ∷ 49 ∷ 48 ∷ 48 ∷ []) ∷
-    (48 ∷ 49 ∷ 50 ∷ 48 ∷ []) ∷
-    (48 ∷ 49 ∷ 52 ∷ 48 ∷ []) ∷
-    (48 ∷ 49 ∷ 54 ∷ 48 ∷ []) ∷
-    (48 ∷ 49 ∷ 56 ∷ 48 ∷ []) ∷
-    (48 ∷ 49 ∷ 65 ∷ 48 ∷ []) ∷
-    (48 ∷ 49 ∷ 67 ∷ 48 ∷ []) ∷
-    (48 ∷ 49 ∷ 69 ∷ 48 ∷ []) ∷
+    letters "0100" ∷
+    letters "0120" ∷
+    letters "0140" ∷
+    letters "0160" ∷
+    letters "0180" ∷
+    letters "01A0" ∷
+    letters "01C0" ∷
+    letters "01E0" ∷
     []
 
 -- The first of the texts that cmd is, or how many there are.
@@ -41,9 +42,15 @@ indexOf (t ∷ ts) cmd = pick (sameText cmd t) 0 (suc (indexOf ts cmd))
 -- "fewer than 4 bytes or a start other than 01 and two hex digits, the answer `?`; else the PID"
 unfoldable pub pidOf : List ℕ → Command
 pidOf s =
-    pick (leb 4 (length s) && eqb (getD s 0 0) 48 && eqb (getD s 1 0) 49 && ltb (hexValue (getD s 2 0)) 16 && ltb (hexValue (getD s 3 0)) 16)
+    pick (leb 4 (length s) && eqb (getD s 0 0) (letter "0") && eqb (getD s 1 0) (letter "1") && ltb (hexValue (getD s 2 0)) 16 && ltb (hexValue (getD s 3 0)) 16)
     (Pid (hexValue (getD s 2 0) * 16 + hexValue (getD s 3 0)))
     Unknown
 
 unfoldable pub commandOf : List ℕ → Command
 commandOf cmd = pick (ltb (indexOf rangeTexts (stripped cmd)) 8) (Range (indexOf rangeTexts (stripped cmd))) (pidOf (stripped cmd))
+
+-- Document 01's class of each command, 0 `range`, 1 `pid`, 2 `?`, and its number.
+abbrev pub valuesOf : Command → List ℕ
+valuesOf (Range k) = 0 ∷ k ∷ []
+valuesOf (Pid p) = 1 ∷ p ∷ []
+valuesOf Unknown = 2 ∷ []

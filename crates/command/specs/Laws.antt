@@ -1,7 +1,8 @@
 -- Laws of the definitions of `Classify`.
 use mathlib.Core.Bool.{Bool, true, false, _&&_}
-use mathlib.Core.List.{List, [], _∷_}
+use mathlib.Core.List.{List, [], _∷_, _++_}
 use mathlib.Core.Path.{_≡_, refl, ap, sym}
+use Prim.Native.Char.{Char}
 use Prim.Native.Nat.{ℕ, _+_, _-_, _%_, _<_, _≤_}
 use native.Mathlib.Omega.{arith}
 use native.Mathlib.Numerals.{add-one}
@@ -11,8 +12,14 @@ use lib.Seq.{drop-cons, take-all, getD-take, length-take-le}
 use borrow.Author.Tests.{le-leb, leb-true, leb-false}
 use Rattle.ascii.specs.Chars.{upper}
 use Rattle.base.specs.Choice.{cases}
+use Rattle.base.specs.Letters.{letter, letters}
 use Rattle.base.specs.Search.{Search}
-use Rattle.command.specs.Classify.{sameText, indexOf, rangeTexts, stripped, pidOf, commandOf}
+use Rattle.command.specs.Classify.{sameText, indexOf, rangeTexts, stripped, pidOf, commandOf, valuesOf}
+use Rattle.command.specs.declared.Command.{Command}
+
+-- A command that is known has its class and number.
+pub told : {r s : Command} → r ≡ s → (r ≡ s) × (valuesOf r ≡ valuesOf s)
+told e = (e, ap valuesOf e)
 
 -- Two texts of different lengths differ.
 pub same-length : (xs ys : List ℕ) → (length xs ≡ length ys → ⊥) → sameText xs ys ≡ false
@@ -51,10 +58,10 @@ text-search cmd = record { none = refl; turn = λ t ts. refl }
 index-long : (s : List ℕ) → (length s ≡ 4 → ⊥) → indexOf rangeTexts s ≡ 8
 unfolding indexOf rangeTexts
 index-long s h =
-    simp (differs 48 48, differs 50 48, differs 52 48, differs 54 48, differs 56 48, differs 65 48, differs 67 48, differs 69 48)
+    simp (differs "0", differs "2", differs "4", differs "6", differs "8", differs "A", differs "C", differs "E")
   where
-    differs : (a b : ℕ) → sameText s (48 ∷ 49 ∷ a ∷ b ∷ []) ≡ false
-    differs a b = same-length s (48 ∷ 49 ∷ a ∷ b ∷ []) h
+    differs : (c : Char) → sameText s (letters "01" ++ (letter c ∷ letters "0")) ≡ false
+    differs c = same-length s (letters "01" ++ (letter c ∷ letters "0")) h
 
 -- Which PID a command asks for is decided by its first four bytes.
 pid-start : (s t : List ℕ) → 4 ≤ length s → 4 ≤ length t → ((i : ℕ) → i < 4 → getD s i 0 ≡ getD t i 0) → pidOf s ≡ pidOf t

@@ -1,7 +1,7 @@
 // What the bytes of a client's command ask for: the command part of obd2.rs, with J1979 and the ELM327
 // datasheet deciding what a mode 01 command is.
 ghost use mathlib.Core.Path.{_≡_};
-ghost use Rattle.command.specs.Classify.{sameText, indexOf, rangeTexts, stripped, pidOf, commandOf};
+ghost use Rattle.command.specs.Classify.{sameText, indexOf, rangeTexts, stripped, pidOf, commandOf, valuesOf};
 
 pub enum Command {
     // one of the eight queries for the supported PIDs, 0 to 7
@@ -86,6 +86,7 @@ fn wire_command_to_pid(cmd: &[u8]) -> Command
 
 pub fn classify(cmd: &[u8]) -> Command
     ensures { λ r. ⌜ r ≡ commandOf (now (cmd .entry)) ⌝ }
+    ensures { λ r. ⌜ valuesOf r ≡ valuesOf (commandOf (now (cmd .entry))) ⌝ }
 {
     let normalized = strip_response_count(cmd);
     let range = supported_pids_index(normalized);

@@ -16,12 +16,7 @@ use Rattle.control.specs.declared.DongleMessage.{DongleMessage}
 use Rattle.control.specs.declared.outbox.Slot.{Slot}
 use Rattle.control_line.specs.declared.ControlLine.{ControlLine}
 use Rattle.control_line.specs.declared.Taken.the-variants.{Message, Nothing}
-use Rattle.control_line.specs.Ring.{unused, emptyLine, pushOf, pushAllOf, takeOf, from, waiting}
-
--- A line as the box holds it: all its places, and no more messages than places.
-pub record Sound (l : ControlLine) : Type 0 where
-  pub whole : length (l .slots) ≡ 1024
-  pub within : l .count ≤ 1024
+use Rattle.control_line.specs.Ring.{unused, emptyLine, pushOf, pushAllOf, takeOf, from, waiting, Sound}
 
 pub empty-sound : Sound emptyLine
 unfolding emptyLine

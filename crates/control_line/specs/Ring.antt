@@ -1,8 +1,9 @@
 -- The control line: document 01, "Control messages wait in 1,024 places, reused."
 use mathlib.Core.List.{List, [], _∷_}
-use Prim.Native.Nat.{ℕ, zero, suc, _+_, _-_, _%_}
+use mathlib.Core.Path.{_≡_}
+use Prim.Native.Nat.{ℕ, zero, suc, _+_, _-_, _%_, _≤_}
 use lib.Dec.{ltb, eqb}
-use lib.ListN.{getD, set, replicate}
+use lib.ListN.{length, getD, set, replicate}
 use Rattle.base.specs.Choice.{pick}
 use Rattle.config.specs.declared.PidPriority.the-variants.{Fast}
 use Rattle.control.specs.Outbox.{slotOf}
@@ -19,6 +20,11 @@ unused = slotOf (SetPidPriority 0 Fast)
 
 unfoldable pub emptyLine : ControlLine
 emptyLine = record { slots = replicate 1024 unused; head = 0; count = 0 }
+
+-- A line as the box holds it: all its places, and no more messages than places.
+pub record Sound (l : ControlLine) : Type 0 where
+  pub whole : length (l .slots) ≡ 1024
+  pub within : l .count ≤ 1024
 
 unfoldable pub freeOf : ℕ → ℕ
 freeOf count = pick (ltb count 1024) (1024 - count) 0

@@ -15,12 +15,13 @@ use Rattle.clients.specs.Rules.{registeredOf, numbersOf, markedOf}
 use Rattle.clients.specs.Laws.{place-map, find-map, numbers-map, marked-number, marked-wait, marked-long, marked-nobody, marked-fresh, registered-some}
 use Rattle.config.specs.declared.Profiles.{Profiles}
 use Rattle.desk.specs.Rules.{registered, clientOf, fresh, waitOf, stored}
-use Rattle.desk.specs.Laws.{Sound, After, client-number}
+use Rattle.desk.specs.Laws.{client-number}
+use Rattle.desk.specs.Sound.{Sound, After}
 use Rattle.desk.specs.declared.Desk.{Desk}
 use Rattle.reply.specs.Rules.{noReply}
 use Rattle.reply.specs.declared.Reply.{Reply}
 use Rattle.reply.specs.declared.Response.{Response}
-use Rattle.delivery.specs.Rules.{unfit, responseRefusal, deliverOf, pidAt, replyAt, valueAt, turnOf, turnsOf, unanswered, responseOf}
+use Rattle.delivery.specs.Rules.{unfit, responseRefusal, deliverOf, pidAt, replyAt, valueAt, turnOf, turnsOf, unanswered, responseOf, arrivesIn, newestIn, arrives, newestOf}
 use Rattle.delivery.specs.Cases.{response-taken}
 use Rattle.delivery.specs.declared.Answered.{Answered}
 
@@ -73,22 +74,6 @@ module _ (d : Desk) (s : Sound d) (p : ℕ) (y : Reply) (v : ℕ) (h : p < 256) 
         once = λ c z. rw told-numbers (s .once c z);
         below = λ c k. rw told-numbers (s .below c k);
       }
-
--- The PID is among the k of a response from place i on; and its newest reply after them.
-unfoldable pub arrivesIn : ℕ → ℕ → Response → ℕ → Bool
-arrivesIn zero i r p = false
-arrivesIn (suc k) i r p = eqb (pidAt r i) p || arrivesIn k (suc i) r p
-
-unfoldable pub newestIn : ℕ → ℕ → Response → ℕ → Reply → Reply
-newestIn zero i r p old = old
-newestIn (suc k) i r p old = newestIn k (suc i) r p (pick (eqb (pidAt r i) p) (replyAt r i) old)
-
--- A reply for the PID comes by the response, and it is the newest one after it.
-abbrev pub arrives : Response → ℕ → Bool
-arrives r p = arrivesIn (r .count) 0 r p
-
-abbrev pub newestOf : Response → ℕ → Reply → Reply
-newestOf r p old = newestIn (r .count) 0 r p old
 
 none : (f g : Bool) → f ≡ (f || (g && false))
 none true g = refl

@@ -87,3 +87,19 @@ responseOf d ps r =
     pick (eqb (responseRefusal r) 0)
     (turnsOf (r .count) 0 r (unanswered 0 d ps))
     (unanswered (responseRefusal r) d ps)
+
+-- The PID is among the k of a response from place i on; and its newest reply after them.
+unfoldable pub arrivesIn : ℕ → ℕ → Response → ℕ → Bool
+arrivesIn zero i r p = false
+arrivesIn (suc k) i r p = eqb (pidAt r i) p || arrivesIn k (suc i) r p
+
+unfoldable pub newestIn : ℕ → ℕ → Response → ℕ → Reply → Reply
+newestIn zero i r p old = old
+newestIn (suc k) i r p old = newestIn k (suc i) r p (pick (eqb (pidAt r i) p) (replyAt r i) old)
+
+-- A reply for the PID comes by the response, and it is the newest one after it.
+abbrev pub arrives : Response → ℕ → Bool
+arrives r p = arrivesIn (r .count) 0 r p
+
+abbrev pub newestOf : Response → ℕ → Reply → Reply
+newestOf r p old = newestIn (r .count) 0 r p old

@@ -1,6 +1,6 @@
--- What holds of every desk that calls have made, and what registering and leaving do: who is registered, what is
--- fresh for whom, who waits for what, and the newest replies. A client is spoken of by its number.
-use mathlib.Core.Bool.{Bool, true, false, _&&_, not, and-false}
+-- What registering and leaving do: who is registered, what is fresh for whom, who waits for what, and the newest replies; every desk
+-- that they made is sound. A client is spoken of by its number.
+use mathlib.Core.Bool.{true, false, _&&_, not, and-false}
 use mathlib.Core.List.{[], _∷_}
 use mathlib.Core.Path.{_≡_, refl, ap, sym, _∙_}
 use Prim.Native.Nat.{ℕ, zero, suc, _+_, _<_, _≤_}
@@ -15,28 +15,11 @@ use Rattle.base.specs.Refusal.{not-here, not-next}
 use Rattle.base.specs.Times.{times, times-set}
 use Rattle.clients.specs.Rules.{places, idle, newcomer, placeOf, registeredOf, numbersOf, freshIn}
 use Rattle.clients.specs.Laws.{find-at, found-number, find-put-same, find-put-new, find-put-other, place-put-same, place-put-other, numbers-set, numbers-at, numbers-length, absent-place, place-absent, place-present, registered-place, registered-some, newcomer-number, newcomer-wait, newcomer-fresh, newcomer-long}
-use Rattle.clients.specs.declared.Wait.{Wait}
 use Rattle.clients.specs.declared.Client.{Client}
-use Rattle.reply.specs.declared.Reply.{Reply}
 use Rattle.desk.specs.Rules.{startDesk, withGiven, registered, clientOf, fresh, waitOf, stored, putClient, mostNumbers, full, registerRefusal, entered, registerOf, leaveOf}
+use Rattle.desk.specs.Sound.{Sound, After}
 use Rattle.desk.specs.Cases.{leave-done, leave-nobody}
 use Rattle.desk.specs.declared.Desk.{Desk}
-
--- The arrays are whole, the numbers in use are distinct, and none is above how many were given.
-pub record Sound (d : Desk) : Type 0 where
-  pub eight : length (d .clients) ≡ places
-  pub whole : length (d .store) ≡ 256
-  pub marks : (c : ℕ) → registered d c ≡ true → length (clientOf d c .fresh) ≡ 256
-  pub once : (c : ℕ) → (c ≡ 0 → ⊥) → times c (numbersOf (d .clients)) ≤ 1
-  pub below : (c : ℕ) → d .given < c → times c (numbersOf (d .clients)) ≡ 0
-
--- What a desk is after a call: who is registered, what is fresh for whom, who waits for what since when, and the newest replies.
-pub record After (e : Desk) (who : ℕ → Bool) (new : ℕ → ℕ → Bool) (wait : ℕ → Wait) (reply : ℕ → Reply) : Type 0 where
-  pub is-registered : (c : ℕ) → registered e c ≡ who c
-  pub is-fresh : (c p : ℕ) → fresh e c p ≡ new c p
-  pub waits : (c : ℕ) → waitOf e c ≡ wait c
-  pub newest : (p : ℕ) → stored e p ≡ reply p
-  pub sound : Sound e
 
 -- A number that is registered stands at a place, once.
 module _ (d : Desk) (s : Sound d) where

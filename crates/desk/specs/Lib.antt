@@ -1,4 +1,5 @@
 pub mod Rules
+pub mod Sound
 pub mod Cases
 pub mod Laws
 pub mod Core

@@ -13,7 +13,7 @@ ghost use lib.ListN.{length};
 ghost use Rattle.clients.specs.Rules.{places};
 ghost use Rattle.obd2.specs.Call as call;
 ghost use Rattle.obd2.specs.Core.{lent, boxOf, answeredOf};
-ghost use Rattle.obd2.specs.History.{inTime};
+ghost use Rattle.obd2.specs.Answers.{Answers};
 ghost use Rattle.poller.specs.Core.{Held};
 
 // A response of the dongle goes to every client. The profiles that its values switched off count no more in the
@@ -39,7 +39,7 @@ pub fn response(
     ensures { λ _. ⌜ length (now (rates .exit)) ≡ 256 ⌝ }
     ensures { λ r. ⌜ (r .notes .summary .ran ≡ false → now (pids .exit) ≡ now (pids .entry)) ⌝ }
     ensures { λ r. ⌜ (r .notes .summary .ran ≡ false → now (rates .exit) ≡ now (rates .entry)) ⌝ }
-    ensures { λ r. ⌜ ((polling : Held) → answeredOf (lent (now (replies .exit)) (now (marks .exit)) (now (table .exit)) (now (slots .exit)) polling (now (pids .exit)) (now (rates .exit))) r ≡ inTime (boxOf (lent (now (replies .entry)) (now (marks .entry)) (now (table .entry)) (now (slots .entry)) polling (now (pids .entry)) (now (rates .entry))) core) (call.response time response)) ⌝ }
+    ensures { λ r. ⌜ ((polling : Held) → Answers (boxOf (lent (now (replies .entry)) (now (marks .entry)) (now (table .entry)) (now (slots .entry)) polling (now (pids .entry)) (now (rates .entry))) core) (call.response time response) (answeredOf (lent (now (replies .exit)) (now (marks .exit)) (now (table .exit)) (now (slots .exit)) polling (now (pids .exit)) (now (rates .exit))) r)) ⌝ }
 {
     let mut desk = core.desk;
     let profiles = core.profiles;

@@ -6,14 +6,14 @@ use Prim.Native.Nat.{ℕ}
 use lib.Dec.{eqb}
 use lib.ListN.{length}
 use Rattle.base.specs.Choice.{pick}
-use Rattle.obd2.specs.Answers.{numberIn, valuesIn, valuesOf}
+use Rattle.obd2.specs.Answers.{Tells}
 use Rattle.clients.specs.Rules.{places}
 use Rattle.obd2.specs.Call as history
 use Rattle.obd2.specs.Core.{Lent}
 use Rattle.obd2.specs.Done.{doneOf}
-use Rattle.obd2.specs.History.{lentBy}
+use Rattle.obd2.specs.History.{lentBy, step}
 use Rattle.obd2.specs.Refusals.{refusalOf}
-use Rattle.obd2.specs.declared.Answer.{Answer}
+use Rattle.obd2.specs.declared.Answered.{Answered}
 use Rattle.obd2.specs.declared.State.{State}
 use Rattle.obd2.specs.declared.call.Call.{Call}
 use Rattle.obd2.specs.declared.call.Call.the-variants.{Register, Leave, Ask, Collect, GiveUp, Response, ProfilePidsChanged, Waiting, Consumed, Tick, SetSettings, TakeControl, Connect, ConnectFailed, ReconnectCheck, Begin, Next, Result}
@@ -75,7 +75,10 @@ abbrev pub areaOf : State → ℕ → Call → Brought → List ℕ → List ℕ
 areaOf s t c b cmd area = let k = callOf t c b cmd area in areaBy (refusalOf s k) s k area
 
 -- What goes with every answer: the call is one that demand 3 speaks of, and the answer has document 01's number and values.
-pub record Promised (s : State) (c : history.Call) (a : Answer) : Type 0 where
+pub record Promised (s : State) (c : history.Call) (r : Answered) : Type 0 where
   pub fits : history.Fit c
-  pub number : numberIn a ≡ refusalOf s c
-  pub values : valuesIn a ≡ pick (eqb (refusalOf s c) 0) (valuesOf (doneOf s c .said)) []
+  pub tells : Tells (refusalOf s c) (doneOf s c .said) (doneOf s c .details) r
+
+-- All that `call` promises of a call k.
+unfoldable pub All : State → ℕ → Brought → List ℕ → List ℕ → Answered → List ℕ → Call → Type 0
+All s t b cmd area r after k = let c = callOf t k b cmd area in (r ≡ step s c) × ((after ≡ areaOf s t k b cmd area) × Promised s c r)

@@ -11,9 +11,10 @@ use lib.Seq.{drop-cons, take-suc, take-all, length-take-le}
 use borrow.Author.Tests.{lt-ltb, ltb-true, eq-eqb, ne-eqb}
 use Rattle.ascii.specs.Chars.{hexValue, hexDigit}
 use Rattle.base.specs.Choice.{cases, false-true}
+use Rattle.base.specs.Letters.{letter}
 use Rattle.base.specs.Write.{over, over-none, over-one, over-length, over-over, over-cons}
 use Rattle.hex.specs.declared.Bytes.the-variants.{Bad}
-use Rattle.hex.specs.Pairs.{isHex, pairOf, hexes, isPairs, pairs, bytesOf, readOf, plainOf, copyOf, commandOf, commandBytes, hexText}
+use Rattle.hex.specs.Pairs.{isHex, pairOf, hexes, isPairs, pairs, bytesOf, readOf, plainOf, copyOf, commandOf, commandBytes, hexText, Filled}
 
 -- The highest of the values so far, and of one more: all are digits if it is one.
 module _ (h v : ℕ) (x : Bool) where
@@ -98,11 +99,6 @@ unfolding hexText
 text-append [] ys = refl
 text-append (x ∷ xs) ys = rw (text-append xs ys)
 
--- The first i bytes are written as pairs behind the place at.
-pub record Filled (d : List ℕ) (at : ℕ) (bytes : List ℕ) (i place : ℕ) (out : List ℕ) : Type 0 where
-  pub place-is : place ≡ at + 2 * i
-  pub out-is : out ≡ over d at (hexText (take i bytes))
-
 module _ (d : List ℕ) (at : ℕ) (bytes : List ℕ) (fits : at + 2 * length bytes ≤ length d) where
   pub filled-none : Filled d at bytes 0 at d
   unfolding hexText
@@ -142,23 +138,23 @@ module _ (room : ℕ) (d : List ℕ) where
   command-none [] h = (refl, refl)
   command-none (b ∷ s) h = absurd (omega arith)
 
-  pub command-plain : (s : List ℕ) → (length s ≡ 0 → ⊥) → getD s 0 0 ≡ 39
+  pub command-plain : (s : List ℕ) → (length s ≡ 0 → ⊥) → getD s 0 0 ≡ letter "'"
       → (commandOf room s ≡ plainOf room (drop 1 s)) × (commandBytes d s ≡ copyOf d (drop 1 s))
   unfolding commandOf commandBytes
   command-plain [] h e = absurd (h refl)
-  command-plain (b ∷ s) h e = (rw (eq-eqb b 39 e), rw (eq-eqb b 39 e))
+  command-plain (b ∷ s) h e = (rw (eq-eqb b (letter "'") e), rw (eq-eqb b (letter "'") e))
 
-  pub command-pairs : (s : List ℕ) → (length s ≡ 0 → ⊥) → (getD s 0 0 ≡ 39 → ⊥) → getD s 0 0 ≡ 120
+  pub command-pairs : (s : List ℕ) → (length s ≡ 0 → ⊥) → (getD s 0 0 ≡ letter "'" → ⊥) → getD s 0 0 ≡ letter "x"
       → (commandOf room s ≡ bytesOf room (drop 1 s)) × (commandBytes d s ≡ readOf d (drop 1 s))
   unfolding commandOf commandBytes
   command-pairs [] h k e = absurd (h refl)
-  command-pairs (b ∷ s) h k e = (rw (ne-eqb b 39 k, eq-eqb b 120 e), rw (ne-eqb b 39 k, eq-eqb b 120 e))
+  command-pairs (b ∷ s) h k e = (rw (ne-eqb b (letter "'") k, eq-eqb b (letter "x") e), rw (ne-eqb b (letter "'") k, eq-eqb b (letter "x") e))
 
-  pub command-other : (s : List ℕ) → (length s ≡ 0 → ⊥) → (getD s 0 0 ≡ 39 → ⊥) → (getD s 0 0 ≡ 120 → ⊥)
+  pub command-other : (s : List ℕ) → (length s ≡ 0 → ⊥) → (getD s 0 0 ≡ letter "'" → ⊥) → (getD s 0 0 ≡ letter "x" → ⊥)
       → (commandOf room s ≡ Bad) × (commandBytes d s ≡ d)
   unfolding commandOf commandBytes
   command-other [] h k e = absurd (h refl)
-  command-other (b ∷ s) h k e = (rw (ne-eqb b 39 k, ne-eqb b 120 e), rw (ne-eqb b 39 k, ne-eqb b 120 e))
+  command-other (b ∷ s) h k e = (rw (ne-eqb b (letter "'") k, ne-eqb b (letter "x") e), rw (ne-eqb b (letter "'") k, ne-eqb b (letter "x") e))
 
 -- What stands behind the first byte.
 pub rest-all : (s : List ℕ) → take (length s - 1) (drop 1 s) ≡ drop 1 s

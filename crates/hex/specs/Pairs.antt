@@ -1,12 +1,14 @@
 -- Bytes as text: history-format.md, "A PID is two hex digits. Bytes are pairs of hex digits. Input takes hex
--- digits in either case, output is upper case", and its token COMMAND. 39 is `'`, 120 is `x`.
+-- digits in either case, output is upper case", and its token COMMAND.
 use mathlib.Core.Bool.{Bool, true, _&&_}
 use mathlib.Core.List.{List, [], _∷_}
+use mathlib.Core.Path.{_≡_}
 use Prim.Native.Nat.{ℕ, _+_, _*_, _/_, _%_}
 use lib.Dec.{eqb, leb, ltb}
-use lib.ListN.{length, getD}
+use lib.ListN.{length, getD, take}
 use Rattle.ascii.specs.Chars.{hexValue, hexDigit}
 use Rattle.base.specs.Choice.{pick}
+use Rattle.base.specs.Letters.{letter}
 use Rattle.base.specs.Write.{over}
 use Rattle.hex.specs.declared.Byte.{Byte}
 use Rattle.hex.specs.declared.Byte.the-variants as byte
@@ -56,11 +58,11 @@ copyOf d s = pick (leb (length s) (length d)) (over d 0 s) d
 -- COMMAND: "`'` and the bytes themselves .., or `x` and hex pairs ..; either alone is no bytes"
 unfoldable pub commandOf : ℕ → List ℕ → Bytes
 commandOf room [] = Bad
-commandOf room (b ∷ s) = pick (eqb b 39) (plainOf room s) (pick (eqb b 120) (bytesOf room s) Bad)
+commandOf room (b ∷ s) = pick (eqb b (letter "'")) (plainOf room s) (pick (eqb b (letter "x")) (bytesOf room s) Bad)
 
 unfoldable pub commandBytes : List ℕ → List ℕ → List ℕ
 commandBytes d [] = d
-commandBytes d (b ∷ s) = pick (eqb b 39) (copyOf d s) (pick (eqb b 120) (readOf d s) d)
+commandBytes d (b ∷ s) = pick (eqb b (letter "'")) (copyOf d s) (pick (eqb b (letter "x")) (readOf d s) d)
 
 -- The same in the text's own place, which has room always: of what is bad there are no bytes, and the text is as it was.
 unfoldable pub turnOf : List ℕ → Turned
@@ -71,13 +73,18 @@ turnedBytes s = pick (isPairs s) (pairs s) []
 
 unfoldable pub commandTurn : List ℕ → Turned
 commandTurn [] = turned.Bad
-commandTurn (b ∷ s) = pick (eqb b 39) (turned.Count (length s)) (pick (eqb b 120) (turnOf s) turned.Bad)
+commandTurn (b ∷ s) = pick (eqb b (letter "'")) (turned.Count (length s)) (pick (eqb b (letter "x")) (turnOf s) turned.Bad)
 
 unfoldable pub commandText : List ℕ → List ℕ
 commandText [] = []
-commandText (b ∷ s) = pick (eqb b 39) s (pick (eqb b 120) (turnedBytes s) [])
+commandText (b ∷ s) = pick (eqb b (letter "'")) s (pick (eqb b (letter "x")) (turnedBytes s) [])
 
 -- The text of bytes, "output is upper case".
 unfoldable pub hexText : List ℕ → List ℕ
 hexText [] = []
 hexText (b ∷ s) = hexDigit (b / 16) ∷ hexDigit b ∷ hexText s
+
+-- The first i bytes are written as pairs behind the place at.
+pub record Filled (d : List ℕ) (at : ℕ) (bytes : List ℕ) (i place : ℕ) (out : List ℕ) : Type 0 where
+  pub place-is : place ≡ at + 2 * i
+  pub out-is : out ≡ over d at (hexText (take i bytes))

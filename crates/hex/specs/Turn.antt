@@ -10,6 +10,7 @@ use lib.Seq.{take-nil, drop-nil, take-add, drop-drop, drop-append-seam, length-t
 use borrow.Author.Tests.{eq-eqb, ne-eqb}
 use Rattle.base.specs.Both.{both, both-left, both-right}
 use Rattle.base.specs.Choice.{cases}
+use Rattle.base.specs.Letters.{letter}
 use Rattle.base.specs.Write.{over, over-none, over-over}
 use Rattle.hex.specs.declared.Turned.{Turned}
 use Rattle.hex.specs.declared.Turned.the-variants.{Count, Bad}
@@ -98,25 +99,25 @@ unfolding commandTurn commandText
 turned-none [] h = (refl, sym (over-none [] 1))
 turned-none (b ∷ s) h = absurd (omega arith)
 
-pub turned-plain : (s : List ℕ) → (length s ≡ 0 → ⊥) → getD s 0 0 ≡ 39 → (Count (length s - 1) ≡ commandTurn s) × (s ≡ over s 1 (commandText s))
+pub turned-plain : (s : List ℕ) → (length s ≡ 0 → ⊥) → getD s 0 0 ≡ letter "'" → (Count (length s - 1) ≡ commandTurn s) × (s ≡ over s 1 (commandText s))
 unfolding commandTurn commandText over
 turned-plain [] h e = absurd (h refl)
 turned-plain (b ∷ s) h e =
     let z : length (b ∷ s) - 1 ≡ length s = omega arith in
     let d : drop (1 + length s) (b ∷ s) ≡ [] = drop-of-length-le (b ∷ s) {i = 1 + length s} (omega arith) in
-    (rw (z, eq-eqb b 39 e), rw (eq-eqb b 39 e, d, append-nil))
+    (rw (z, eq-eqb b (letter "'") e), rw (eq-eqb b (letter "'") e, d, append-nil))
 
-pub turned-pairs : (s : List ℕ) → (length s ≡ 0 → ⊥) → (getD s 0 0 ≡ 39 → ⊥) → getD s 0 0 ≡ 120
+pub turned-pairs : (s : List ℕ) → (length s ≡ 0 → ⊥) → (getD s 0 0 ≡ letter "'" → ⊥) → getD s 0 0 ≡ letter "x"
     → (turnOf (drop 1 s) ≡ commandTurn s) × (turnedBytes (drop 1 s) ≡ commandText s)
 unfolding commandTurn commandText
 turned-pairs [] h k e = absurd (h refl)
-turned-pairs (b ∷ s) h k e = (rw (ne-eqb b 39 k, eq-eqb b 120 e), rw (ne-eqb b 39 k, eq-eqb b 120 e))
+turned-pairs (b ∷ s) h k e = (rw (ne-eqb b (letter "'") k, eq-eqb b (letter "x") e), rw (ne-eqb b (letter "'") k, eq-eqb b (letter "x") e))
 
-pub turned-other : (s : List ℕ) → (length s ≡ 0 → ⊥) → (getD s 0 0 ≡ 39 → ⊥) → (getD s 0 0 ≡ 120 → ⊥)
+pub turned-other : (s : List ℕ) → (length s ≡ 0 → ⊥) → (getD s 0 0 ≡ letter "'" → ⊥) → (getD s 0 0 ≡ letter "x" → ⊥)
     → (Bad ≡ commandTurn s) × (s ≡ over s 1 (commandText s))
 unfolding commandTurn commandText
 turned-other [] h k e = absurd (h refl)
-turned-other (b ∷ s) h k e = (rw (ne-eqb b 39 k, ne-eqb b 120 e), rw (ne-eqb b 39 k, ne-eqb b 120 e) (sym (over-none (b ∷ s) 1)))
+turned-other (b ∷ s) h k e = (rw (ne-eqb b (letter "'") k, ne-eqb b (letter "x") e), rw (ne-eqb b (letter "'") k, ne-eqb b (letter "x") e) (sym (over-none (b ∷ s) 1)))
 
 -- The count is that of the bytes, of which a bad text has none; they are no more than the text has, behind a command's mark.
 abbrev pub Speaks : Turned → List ℕ → Type 0
@@ -135,13 +136,13 @@ pub command-speaks : (s : List ℕ) → Speaks (commandTurn s) (commandText s)
 unfolding commandTurn commandText
 command-speaks [] = refl
 command-speaks (b ∷ s) =
-    cases _ (eqb b 39)
+    cases _ (eqb b (letter "'"))
     (λ e. rw e refl)
-    (λ e. rw e (cases _ (eqb b 120) (λ f. rw f (turn-speaks s)) (λ f. rw f refl)))
+    (λ e. rw e (cases _ (eqb b (letter "x")) (λ f. rw f (turn-speaks s)) (λ f. rw f refl)))
 
 pub command-short : (b : ℕ) (s : List ℕ) → length (commandText (b ∷ s)) ≤ length s
 unfolding commandText
 command-short b s =
-    cases _ (eqb b 39)
+    cases _ (eqb b (letter "'"))
     (λ e. rw e (omega arith))
-    (λ e. rw e (cases _ (eqb b 120) (λ f. rw f (turn-short s)) (λ f. rw f (omega arith))))
+    (λ e. rw e (cases _ (eqb b (letter "x")) (λ f. rw f (turn-short s)) (λ f. rw f (omega arith))))

@@ -1,7 +1,7 @@
--- The answer lines of the box's calls: history-format.md, "Calls of the box and their answers". 10 is the line feed;
--- beside the page's words stand their letters.
-use mathlib.Core.List.{List, [], _∷_, _++_}
+-- The answer lines of the box's calls: history-format.md, "Calls of the box and their answers".
+use mathlib.Core.List.{List, _++_}
 use Prim.Native.Nat.{ℕ}
+use Rattle.base.specs.Letters.{letters}
 use Rattle.obd2.specs.declared.Answer.{Answer}
 use Rattle.obd2.specs.declared.Details.{Details}
 use Rattle.reply.specs.declared.Response.{Response}
@@ -10,7 +10,7 @@ use Rattle.history_said.specs.Texts.{saidText}
 
 -- THE LINE, with its line feed.
 unfoldable pub answerText : Answer → Details → Response → List ℕ → List ℕ
-answerText a d v area = saidText a d v area ++ (reportText (d .report) ++ (10 ∷ []))
+answerText a d v area = saidText a d v area ++ (reportText (d .report) ++ letters "\n")
 
 unfoldable pub badText : List ℕ
-badText = 98 ∷ 97 ∷ 100 ∷ 32 ∷ 108 ∷ 105 ∷ 110 ∷ 101 ∷ 10 ∷ []
+badText = letters "bad line\n"

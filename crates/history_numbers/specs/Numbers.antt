@@ -1,10 +1,11 @@
 -- Numbers of fewer than 64 bits, choices and numbers that may be missing: history-format.md, "CLIENT, RATIO and
 -- THRESHOLD have 32 bits, MAXPIDS 8"; "`-` stands for none".
 use mathlib.Core.Bool.{Bool, true, false}
-use mathlib.Core.List.{List, [], _∷_}
+use mathlib.Core.List.{List}
 use Prim.Native.Nat.{ℕ}
 use lib.Dec.{eqb}
 use Rattle.base.specs.Choice.{pick}
+use Rattle.base.specs.Letters.{letters}
 use Rattle.text.specs.Cut.{sameOf}
 use Rattle.numeral.specs.Decimal.{numberOf}
 use Rattle.numeral.specs.declared.Number.{Number}
@@ -21,9 +22,8 @@ use Rattle.history_numbers.specs.declared.ThresholdToken.the-variants as
 use Rattle.history_numbers.specs.declared.WaitToken.{WaitToken}
 use Rattle.history_numbers.specs.declared.WaitToken.the-variants as wait
 
--- 45 is `-`
 unfoldable pub isNone : List ℕ → Bool
-isNone s = sameOf s (45 ∷ [])
+isNone s = sameOf s (letters "-")
 
 abbrev pub asByte : Number → Byte
 asByte (number.Value n) = byte.Value n

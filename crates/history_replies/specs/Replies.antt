@@ -1,6 +1,6 @@
 -- The lines of a REPLY and of a RANGE: "a LINE being hex pairs, possibly none". "More .. lines or bytes than the
 -- box takes are passed on to it": a count stops at 255, and bytes that a reply has no room for are left out.
--- 44 is `,`, 45 is `-`, 46 is `.`, 58 is `:`.
+-- 44 is `,`, 58 is `:`.
 use mathlib.Core.Bool.{Bool, true, false, _&&_}
 use mathlib.Core.List.{List, [], _∷_, _++_}
 use mathlib.Core.Path.{_≡_, refl, sym}
@@ -12,6 +12,7 @@ use lib.Seq.{take-all, length-take-le}
 use borrow.Author.Tests.{eq-eqb, ne-eqb, le-leb, lt-ltb, le-ltb}
 use Rattle.base.specs.Both.{both-left, both-right, both}
 use Rattle.base.specs.Choice.{pick, cases, false-true}
+use Rattle.base.specs.Letters.{letters}
 use Rattle.base.specs.Write.{over, over-lent}
 use Rattle.text.specs.Cut.{sameOf}
 use Rattle.hex.specs.Pairs.{isHex, hexes, isPairs, pairs, bytesOf, readOf, pidOf}
@@ -107,8 +108,8 @@ emptyRange present good = record { range = record { present = present; reply = e
 
 unfoldable pub rangeOf : List ℕ → RangeToken
 rangeOf s =
-    pick (sameOf s (45 ∷ [])) (emptyRange false true)
-    (pick (sameOf s (46 ∷ [])) (emptyRange true true)
+    pick (sameOf s (letters "-")) (emptyRange false true)
+    (pick (sameOf s (letters ".")) (emptyRange true true)
     (pick (eqb (length s) 0) (emptyRange false false)
     (pick (isLines s)
     (record { range = record { present = linesOf s .good; reply = linesOf s .reply }; good = linesOf s .good })
@@ -245,16 +246,16 @@ module _ (s : List ℕ) where
     unfolding replyOf asReply
     reply-good p t a b e = rw (le-ltb (length s) 2 h, a, b, e)
 
-  pub range-absent : sameOf s (45 ∷ []) ≡ true → emptyRange false true ≡ rangeOf s
+  pub range-absent : sameOf s (letters "-") ≡ true → emptyRange false true ≡ rangeOf s
   unfolding rangeOf
   range-absent e = rw e
 
-  module _ (a : sameOf s (45 ∷ []) ≡ false) where
-    pub range-empty : sameOf s (46 ∷ []) ≡ true → emptyRange true true ≡ rangeOf s
+  module _ (a : sameOf s (letters "-") ≡ false) where
+    pub range-empty : sameOf s (letters ".") ≡ true → emptyRange true true ≡ rangeOf s
     unfolding rangeOf
     range-empty e = rw (a, e)
 
-    module _ (b : sameOf s (46 ∷ []) ≡ false) where
+    module _ (b : sameOf s (letters ".") ≡ false) where
       pub range-none : length s ≡ 0 → emptyRange false false ≡ rangeOf s
       unfolding rangeOf
       range-none e = rw (a, b, eq-eqb (length s) 0 e)

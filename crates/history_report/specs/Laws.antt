@@ -8,13 +8,14 @@ use native.Mathlib.Numerals.{add-one}
 use lib.Ieee.{Float}
 use lib.ListN.{length, getD, take, drop, length-take, drop-of-length-le}
 use lib.Seq.{drop-cons, getD-take}
+use Rattle.base.specs.Letters.{letter, letters}
 use Rattle.report.specs.Rates.{ratings}
 use Rattle.report.specs.Report.{noReport}
 use Rattle.report.specs.Summary.{ratedIn, reportIn, rated-at, rated-length}
 use Rattle.report.specs.declared.Rated.{Rated}
 use Rattle.report.specs.declared.Rates.{Rates}
 use Rattle.report.specs.declared.summary.Summary.{Summary}
-use Rattle.history_report.specs.Texts.{metricsText, bitsText, rateText, ratesText, reportText}
+use Rattle.history_report.specs.Texts.{metricsText, bitsText, rateText, ratesText, reportText, ratesIn}
 
 -- Rates from the front.
 module _ (r : Rates) (full : length (r .list) ≡ 256) (i : ℕ) where
@@ -31,10 +32,6 @@ module _ (r : Rates) (full : length (r .list) ≡ 256) (i : ℕ) where
   rates-end h =
       let n = length-take (r .count) (r .list) in
       rw (drop-of-length-le (take (r .count) (r .list)) {i = i} (omega arith))
-
--- The rates that the lent numbers are.
-abbrev pub ratesIn : List ℕ → List Float → ℕ → Rates
-ratesIn ps rs n = record { list = ratedIn ps rs; count = n }
 
 module _ (ps : List ℕ) (rs : List Float) (n : ℕ) (psn : length ps ≡ 256) (rsn : length rs ≡ 256) (i : ℕ) where
   whole : length (ratedIn ps rs) ≡ 256
@@ -55,6 +52,6 @@ module _ (ps : List ℕ) (rs : List Float) (s : Summary) where
 
   pub report-some : s .ran ≡ true
       → reportText (reportIn ps rs s)
-      ≡ (32 ∷ 114 ∷ 101 ∷ 112 ∷ 111 ∷ 114 ∷ 116 ∷ 32 ∷ []) ++ (metricsText (s .metrics) ++ (32 ∷ (bitsText (s .hitrate) ++ ratesText (ratings (ratesIn ps rs (s .count))))))
+      ≡ letters " report " ++ (metricsText (s .metrics) ++ (letter " " ∷ (bitsText (s .hitrate) ++ ratesText (ratings (ratesIn ps rs (s .count))))))
   unfolding reportText reportIn
   report-some e = rw e

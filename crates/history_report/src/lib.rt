@@ -8,8 +8,7 @@ ghost use lib.ListN.{length};
 ghost use Rattle.report.specs.Rates.{ratings};
 ghost use Rattle.report.specs.Summary.{reportIn};
 ghost use Rattle.writing.specs.Fill.{Wrote};
-ghost use Rattle.history_report.specs.Texts.{metricsText, rateText, ratesText, reportText};
-ghost use Rattle.history_report.specs.Laws.{ratesIn};
+ghost use Rattle.history_report.specs.Texts.{metricsText, rateText, ratesText, reportText, ratesIn};
 
 // HITS MISSES WAITED
 fn metrics(out: &mut [u8], at: usize, metrics: CacheMetrics) -> usize

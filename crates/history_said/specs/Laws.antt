@@ -1,6 +1,6 @@
 -- Laws of the definitions of `Texts`.
 use mathlib.Core.Bool.{Bool, false}
-use mathlib.Core.List.{List, [], _∷_, _++_}
+use mathlib.Core.List.{List, [], _++_}
 use mathlib.Core.Path.{_≡_, sym, _∙_}
 use Prim.Native.Nat.{ℕ, suc, _+_, _-_, _<_, _≤_, min}
 use native.Mathlib.Omega.{arith}
@@ -10,6 +10,7 @@ use lib.Seq.{take-all}
 use lib.Dec.{leb}
 use borrow.Author.Tests.{eq-eqb, ne-eqb, leb-true, leb-false}
 use Rattle.base.specs.Choice.{cases}
+use Rattle.base.specs.Letters.{letters}
 use Rattle.numeral.specs.Decimal.{decimalText}
 use Rattle.history_said.specs.Texts.{ecuText, valueText, valuesFrom}
 
@@ -26,7 +27,7 @@ take-min n xs =
 pub take-least : {A : Type 0} (n k : ℕ) (xs : List A) → length xs ≡ k → take (min n k) xs ≡ take n xs
 take-least n k xs e = rw (sym e) (take-min n xs)
 
-pub ecu-none : (n : ℕ) → n ≡ 0 → ecuText n ≡ 45 ∷ []
+pub ecu-none : (n : ℕ) → n ≡ 0 → ecuText n ≡ letters "-"
 unfolding ecuText
 ecu-none n e = rw (eq-eqb n 0 e)
 

@@ -1,11 +1,11 @@
--- What the box's calls answer: history-format.md, "Calls of the box and their answers". Beside each word of the page
--- stand its letters; 32 is a space, 33 `!`, 45 `-`, 48 `0`, 61 `=`.
+-- What the box's calls answer: history-format.md, "Calls of the box and their answers".
 use mathlib.Core.Bool.{Bool, true, false}
 use mathlib.Core.List.{List, [], _∷_, _++_}
 use Prim.Native.Nat.{ℕ, zero, suc, min}
 use lib.Dec.{eqb}
 use lib.ListN.{getD, take}
 use Rattle.base.specs.Choice.{pick}
+use Rattle.base.specs.Letters.{letter, letters}
 use Rattle.cache.specs.declared.Answer.{Answer as Asked}
 use Rattle.cache.specs.declared.Answer.the-variants as asked
 use Rattle.config.specs.declared.PidPriority.{PidPriority}
@@ -36,43 +36,43 @@ unfoldable pub heldOf : ℕ → List ℕ → ℕ
 heldOf lines lengths = min (sumOf (take lines lengths)) 64
 
 unfoldable pub linesText : ℕ → List ℕ → List ℕ → List ℕ
-linesText lines lengths area = numbersText (take lines lengths) ++ (32 ∷ bytesText (take (heldOf lines lengths) area))
+linesText lines lengths area = numbersText (take lines lengths) ++ (letter " " ∷ bytesText (take (heldOf lines lengths) area))
 
 -- `reading PID LENS BYTES`
 unfoldable pub readingText : ℕ → ℕ → List ℕ → List ℕ → List ℕ
-readingText p lines lengths area = (114 ∷ 101 ∷ 97 ∷ 100 ∷ 105 ∷ 110 ∷ 103 ∷ 32 ∷ []) ++ (pidText p ++ (32 ∷ linesText lines lengths area))
+readingText p lines lengths area = letters "reading " ++ (pidText p ++ (letter " " ∷ linesText lines lengths area))
 
 -- "`reading PID LENS BYTES WAIT`"
 unfoldable pub collectedText : ℕ → ℕ → ℕ → List ℕ → List ℕ → List ℕ
-collectedText p wait lines lengths area = readingText p lines lengths area ++ (32 ∷ decimalText wait)
+collectedText p wait lines lengths area = readingText p lines lengths area ++ (letter " " ∷ decimalText wait)
 
 -- `range LENS BYTES`
 unfoldable pub rangeText : ℕ → List ℕ → List ℕ → List ℕ
-rangeText lines lengths area = (114 ∷ 97 ∷ 110 ∷ 103 ∷ 101 ∷ 32 ∷ []) ++ linesText lines lengths area
+rangeText lines lengths area = letters "range " ++ linesText lines lengths area
 
 -- "`set PID 0` (Fast), `set PID 1` (Slow), `remove PID`"
 unfoldable pub digitOf : PidPriority → ℕ
-digitOf Fast = 48
-digitOf Slow = 49
+digitOf Fast = letter "0"
+digitOf Slow = letter "1"
 
 unfoldable pub controlText : DongleMessage → List ℕ
-controlText (SetPidPriority p s) = ((115 ∷ 101 ∷ 116 ∷ 32 ∷ []) ++ pidText p) ++ (32 ∷ digitOf s ∷ [])
-controlText (RemovePid p) = (114 ∷ 101 ∷ 109 ∷ 111 ∷ 118 ∷ 101 ∷ 32 ∷ []) ++ pidText p
+controlText (SetPidPriority p s) = (letters "set " ++ pidText p) ++ (letter " " ∷ digitOf s ∷ [])
+controlText (RemovePid p) = letters "remove " ++ pidText p
 
 -- "`query PID,PID.. ECU` (ECU a count or `-`)"; a query has six places.
 unfoldable pub ecuText : ℕ → List ℕ
-ecuText n = pick (eqb n 0) (45 ∷ []) (decimalText n)
+ecuText n = pick (eqb n 0) (letters "-") (decimalText n)
 
 unfoldable pub queryText : Query → List ℕ
-queryText q = (113 ∷ 117 ∷ 101 ∷ 114 ∷ 121 ∷ 32 ∷ []) ++ (pidsText (take (q .count) (q .pids)) ++ (32 ∷ ecuText (q .ecu)))
+queryText q = letters "query " ++ (pidsText (take (q .count) (q .pids)) ++ (letter " " ∷ ecuText (q .ecu)))
 
 -- "for each PID `PID=VALUE`, with `!` behind it where the PID has a notice"
 unfoldable pub markText : Bool → List ℕ
-markText true = 33 ∷ []
+markText true = letters "!"
 markText false = []
 
 unfoldable pub valueText : ℕ → ℕ → Bool → List ℕ
-valueText p v b = 32 ∷ (pidText p ++ (61 ∷ (decimalText v ++ markText b)))
+valueText p v b = letter " " ∷ (pidText p ++ (letter "=" ∷ (decimalText v ++ markText b)))
 
 -- So many of them from the place i on.
 unfoldable pub valuesFrom : ℕ → ℕ → List ℕ → List ℕ → List Bool → List ℕ
@@ -81,46 +81,46 @@ valuesFrom i (suc n) ps vs bs = valueText (getD ps i 0) (getD vs i 0) (getD bs i
 
 -- "`ok`, then .."; a response has six places. Every other call brings a response with a count of 0.
 unfoldable pub doneText : Details → Response → List ℕ
-doneText d v = (111 ∷ 107 ∷ []) ++ valuesFrom 0 (min (v .count) 6) (v .pids) (d .values) (d .notices)
+doneText d v = letters "ok" ++ valuesFrom 0 (min (v .count) 6) (v .pids) (d .values) (d .notices)
 
 -- What an ask is answered.
 unfoldable pub askedText : Asked → ℕ → List ℕ → List ℕ → List ℕ
-askedText asked.Unable lines lengths area = 117 ∷ 110 ∷ 97 ∷ 98 ∷ 108 ∷ 101 ∷ []
-askedText asked.NoData lines lengths area = 110 ∷ 111 ∷ 100 ∷ 97 ∷ 116 ∷ 97 ∷ []
-askedText asked.Unknown lines lengths area = 117 ∷ 110 ∷ 107 ∷ 110 ∷ 111 ∷ 119 ∷ 110 ∷ []
+askedText asked.Unable lines lengths area = letters "unable"
+askedText asked.NoData lines lengths area = letters "nodata"
+askedText asked.Unknown lines lengths area = letters "unknown"
 askedText asked.Range lines lengths area = rangeText lines lengths area
 askedText (asked.Reading p) lines lengths area = readingText p lines lengths area
-askedText (asked.Waiting p) lines lengths area = (119 ∷ 97 ∷ 105 ∷ 116 ∷ 105 ∷ 110 ∷ 103 ∷ 32 ∷ []) ++ pidText p
+askedText (asked.Waiting p) lines lengths area = letters "waiting " ++ pidText p
 
 -- What the poller takes off the control line.
 unfoldable pub takenText : Taken → List ℕ
 takenText (Message m) = controlText m
-takenText Nothing = 110 ∷ 111 ∷ 110 ∷ 101 ∷ []
+takenText Nothing = letters "none"
 
 -- How connecting went.
 unfoldable pub connectingText : Connecting → List ℕ
-connectingText Connected = 99 ∷ 111 ∷ 110 ∷ 110 ∷ 101 ∷ 99 ∷ 116 ∷ 101 ∷ 100 ∷ []
-connectingText Failed = 102 ∷ 97 ∷ 105 ∷ 108 ∷ 101 ∷ 100 ∷ []
-connectingText Already = 97 ∷ 108 ∷ 114 ∷ 101 ∷ 97 ∷ 100 ∷ 121 ∷ []
+connectingText Connected = letters "connected"
+connectingText Failed = letters "failed"
+connectingText Already = letters "already"
 
 -- Whether a reconnect may be tried.
 unfoldable pub checkText : Bool → List ℕ
-checkText true = 121 ∷ 101 ∷ 115 ∷ []
-checkText false = 110 ∷ 111 ∷ []
+checkText true = letters "yes"
+checkText false = letters "no"
 
 -- The query that is now due, or the round's end.
 unfoldable pub stepText : Step → Query → List ℕ
 stepText Ask q = queryText q
-stepText (End n) q = (101 ∷ 110 ∷ 100 ∷ 32 ∷ []) ++ decimalText n
+stepText (End n) q = letters "end " ++ decimalText n
 
 -- What an accepted call says, without its report.
 unfoldable pub acceptedText : Said → Details → Response → List ℕ → List ℕ
-acceptedText said.Started d v area = 115 ∷ 116 ∷ 97 ∷ 114 ∷ 116 ∷ 101 ∷ 100 ∷ []
+acceptedText said.Started d v area = letters "started"
 acceptedText said.Done d v area = doneText d v
-acceptedText (said.Client n) d v area = (99 ∷ 108 ∷ 105 ∷ 101 ∷ 110 ∷ 116 ∷ 32 ∷ []) ++ decimalText n
+acceptedText (said.Client n) d v area = letters "client " ++ decimalText n
 acceptedText (said.Asked a) d v area = askedText a (d .lines) (d .lengths) area
 acceptedText (said.Collected p wait) d v area = collectedText p wait (d .lines) (d .lengths) area
-acceptedText said.GivenUp d v area = 110 ∷ 111 ∷ 100 ∷ 97 ∷ 116 ∷ 97 ∷ []
+acceptedText said.GivenUp d v area = letters "nodata"
 acceptedText (said.Taken m) d v area = takenText m
 acceptedText (said.Connecting c) d v area = connectingText c
 acceptedText (said.Check b) d v area = checkText b
@@ -128,5 +128,5 @@ acceptedText (said.Step s) d v area = stepText s (d .query)
 
 -- What a call answers, without its report.
 unfoldable pub saidText : Answer → Details → Response → List ℕ → List ℕ
-saidText (Refused n) d v area = (114 ∷ 101 ∷ 102 ∷ 117 ∷ 115 ∷ 101 ∷ 100 ∷ 32 ∷ []) ++ decimalText n
+saidText (Refused n) d v area = letters "refused " ++ decimalText n
 saidText (Accepted a) d v area = acceptedText a d v area

@@ -1,4 +1,4 @@
--- KNOWN, STATE, a result's KIND and LEARNT. 42 is `*`, 44 is `,`.
+-- KNOWN, STATE, a result's KIND and LEARNT. 44 is `,`.
 use mathlib.Core.Bool.{Bool, true, false, _&&_}
 use mathlib.Core.List.{List, [], _∷_, _++_, append-nil}
 use mathlib.Core.Path.{_≡_, refl, ap, sym}
@@ -10,6 +10,7 @@ use lib.ListN.{length, getD, take, set, replicate}
 use lib.Seq.{take-suc-set}
 use borrow.Author.Tests.{eq-eqb, ne-eqb, eqb-true, le-leb}
 use Rattle.base.specs.Choice.{pick}
+use Rattle.base.specs.Letters.{letters}
 use Rattle.base.specs.Times.{times}
 use Rattle.text.specs.Cut.{headOf, tailOf, sameOf}
 use Rattle.numeral.specs.Decimal.{numberOf}
@@ -143,7 +144,7 @@ isBits s = eqb (length s) 64 && isPairs s
 
 unfoldable pub knownOf : List ℕ → KnownToken
 knownOf s =
-    pick (sameOf s (42 ∷ [])) (record { known = tableOf hasLength 256; good = true })
+    pick (sameOf s (letters "*")) (record { known = tableOf hasLength 256; good = true })
     (pick (isBits s) (record { known = tableOf (bitIn (pairs s)) 256; good = true }) noKnown)
 
 even : (s : List ℕ) → isPairs s ≡ true → length s % 2 ≡ 0
@@ -165,11 +166,11 @@ no-both true = refl
 no-both false = refl
 
 module _ (s : List ℕ) where
-  pub known-table : sameOf s (42 ∷ []) ≡ true → record { known = tableOf hasLength 256; good = true } ≡ knownOf s
+  pub known-table : sameOf s (letters "*") ≡ true → record { known = tableOf hasLength 256; good = true } ≡ knownOf s
   unfolding knownOf
   known-table e = rw e
 
-  module _ (h : sameOf s (42 ∷ []) ≡ false) where
+  module _ (h : sameOf s (letters "*") ≡ false) where
     -- the bytes fill the 32 that were lent
     pub known-bits : (bits : List ℕ) → isPairs s ≡ true → length s / 2 ≡ 32 → bits ≡ readOf (zeros 32) s
         → record { known = tableOf (bitIn bits) 256; good = true } ≡ knownOf s

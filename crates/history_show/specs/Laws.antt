@@ -9,7 +9,7 @@ use lib.ListN.{length, getD, drop, drop-of-length-le}
 use lib.Seq.{drop-cons}
 use lib.Dec.{eqb}
 use borrow.Author.Tests.{eq-eqb, ne-eqb}
-use Rattle.base.specs.Choice.{pick, cases}
+use Rattle.base.specs.Choice.{cases}
 use Rattle.control.specs.declared.outbox.Slot.{Slot}
 use Rattle.control_line.specs.Ring.{from, unused}
 use Rattle.control_line.specs.Rows.{messageIn, slotsOf, read-at}
@@ -17,11 +17,7 @@ use Rattle.pid_table.specs.Entry.{nobody}
 use Rattle.pid_table.specs.Rows.{infoOf, tableOf, tracked-in, table-at, table-length}
 use Rattle.pid_table.specs.declared.PidInfo.{PidInfo}
 use Rattle.writing_lists.specs.Parted.{parted, commaText, noneText}
-use Rattle.history_show.specs.Texts.{entryText, trackedFrom, messageText}
-
--- What a PID of the table adds to those before it.
-unfoldable pub addedText : Bool → ℕ → PidInfo → List ℕ
-addedText more p i = pick (i .tracked) (commaText more ++ entryText p i) []
+use Rattle.history_show.specs.Texts.{entryText, trackedFrom, messageText, addedText}
 
 module _ (more : Bool) (p : ℕ) (i : PidInfo) where
   pub added-some : i .tracked ≡ true → addedText more p i ≡ commaText more ++ entryText p i

@@ -17,8 +17,7 @@ ghost use Rattle.control_line.specs.Rows.{lineOf};
 ghost use Rattle.obd2.specs.Core.{Lent, boxOf};
 ghost use Rattle.pid_table.specs.Rows.{infoOf, tableOf};
 ghost use Rattle.writing.specs.Fill.{Wrote, fillOf, fillEnd};
-ghost use Rattle.history_show.specs.Texts.{letterOf, listText, pinText, entryText, tableText, messageText, lineText, revsText, showText};
-ghost use Rattle.history_show.specs.Laws.{addedText};
+ghost use Rattle.history_show.specs.Texts.{letterOf, listText, pinText, entryText, tableText, messageText, lineText, revsText, showText, addedText};
 ghost use Rattle.history_show.specs.Short.{withShown};
 
 // The letter of a speed.

@@ -1,68 +1,69 @@
 -- The words of the calls, as the page's table has them.
-use mathlib.Core.List.{List, [], _∷_}
+use mathlib.Core.List.{List}
 use Prim.Native.Nat.{ℕ}
 use Rattle.base.specs.Choice.{pick}
+use Rattle.base.specs.Letters.{letters}
 use Rattle.text.specs.Cut.{sameOf}
 use Rattle.obd2.specs.declared.call.Call.the-variants.{Register, Tick, TakeControl, ReconnectCheck, Begin, Next}
 use Rattle.history_words.specs.declared.Word.{Word}
 use Rattle.history_words.specs.declared.Word.the-variants as word
 
 abbrev pub next′ : List ℕ
-next′ = 110 ∷ 101 ∷ 120 ∷ 116 ∷ []
+next′ = letters "next"
 
 abbrev pub result′ : List ℕ
-result′ = 114 ∷ 101 ∷ 115 ∷ 117 ∷ 108 ∷ 116 ∷ []
+result′ = letters "result"
 
 abbrev pub response′ : List ℕ
-response′ = 114 ∷ 101 ∷ 115 ∷ 112 ∷ 111 ∷ 110 ∷ 115 ∷ 101 ∷ []
+response′ = letters "response"
 
 abbrev pub ask′ : List ℕ
-ask′ = 97 ∷ 115 ∷ 107 ∷ []
+ask′ = letters "ask"
 
 abbrev pub collect′ : List ℕ
-collect′ = 99 ∷ 111 ∷ 108 ∷ 108 ∷ 101 ∷ 99 ∷ 116 ∷ []
+collect′ = letters "collect"
 
 abbrev pub waiting′ : List ℕ
-waiting′ = 119 ∷ 97 ∷ 105 ∷ 116 ∷ 105 ∷ 110 ∷ 103 ∷ []
+waiting′ = letters "waiting"
 
 abbrev pub consumed′ : List ℕ
-consumed′ = 99 ∷ 111 ∷ 110 ∷ 115 ∷ 117 ∷ 109 ∷ 101 ∷ 100 ∷ []
+consumed′ = letters "consumed"
 
 abbrev pub take′ : List ℕ
-take′ = 116 ∷ 97 ∷ 107 ∷ 101 ∷ []
+take′ = letters "take"
 
 abbrev pub begin′ : List ℕ
-begin′ = 98 ∷ 101 ∷ 103 ∷ 105 ∷ 110 ∷ []
+begin′ = letters "begin"
 
 abbrev pub tick′ : List ℕ
-tick′ = 116 ∷ 105 ∷ 99 ∷ 107 ∷ []
+tick′ = letters "tick"
 
 abbrev pub register′ : List ℕ
-register′ = 114 ∷ 101 ∷ 103 ∷ 105 ∷ 115 ∷ 116 ∷ 101 ∷ 114 ∷ []
+register′ = letters "register"
 
 abbrev pub leave′ : List ℕ
-leave′ = 108 ∷ 101 ∷ 97 ∷ 118 ∷ 101 ∷ []
+leave′ = letters "leave"
 
 abbrev pub giveup′ : List ℕ
-giveup′ = 103 ∷ 105 ∷ 118 ∷ 101 ∷ 117 ∷ 112 ∷ []
+giveup′ = letters "giveup"
 
 abbrev pub profiles′ : List ℕ
-profiles′ = 112 ∷ 114 ∷ 111 ∷ 102 ∷ 105 ∷ 108 ∷ 101 ∷ 115 ∷ []
+profiles′ = letters "profiles"
 
 abbrev pub settings′ : List ℕ
-settings′ = 115 ∷ 101 ∷ 116 ∷ 116 ∷ 105 ∷ 110 ∷ 103 ∷ 115 ∷ []
+settings′ = letters "settings"
 
 abbrev pub connect′ : List ℕ
-connect′ = 99 ∷ 111 ∷ 110 ∷ 110 ∷ 101 ∷ 99 ∷ 116 ∷ []
+connect′ = letters "connect"
 
 abbrev pub reconnect′ : List ℕ
-reconnect′ = 114 ∷ 101 ∷ 99 ∷ 111 ∷ 110 ∷ 110 ∷ 101 ∷ 99 ∷ 116 ∷ []
+reconnect′ = letters "reconnect"
 
 abbrev pub start′ : List ℕ
-start′ = 115 ∷ 116 ∷ 97 ∷ 114 ∷ 116 ∷ []
+start′ = letters "start"
 
 abbrev pub show′ : List ℕ
-show′ = 115 ∷ 104 ∷ 111 ∷ 119 ∷ []
+show′ = letters "show"
 
 unfoldable pub rareOf : List ℕ → Word
 rareOf s =

@@ -10,15 +10,14 @@ use obd2::call::Call;
 ghost use mathlib.Core.Path.{_≡_};
 ghost use Rattle.dispatch.specs.Dispatch.{callOf, areaOf, Promised};
 ghost use Rattle.lent_calls.specs.Bringing.{bringing};
-ghost use Rattle.obd2.specs.Answers.{numberIn};
+ghost use Rattle.obd2.specs.Answers.{PromisedStart};
 ghost use Rattle.obd2.specs.History.{startOf, step};
-ghost use Rattle.obd2.specs.Refusals.{startRefusal};
 ghost use Rattle.profile_list.specs.Copied.{copiedOf};
 
 // The box's start. A list of more than 16 profiles is refused by 2 (`start-longer`).
 pub fn start(time: u64, settings: Settings, profiles: &[Profile]) -> Answered
     ensures { λ r. ⌜ r ≡ startOf time settings (copiedOf (now (profiles .entry))) ⌝ }
-    ensures { λ r. ⌜ numberIn (r .answer) ≡ startRefusal time settings (copiedOf (now (profiles .entry))) ⌝ }
+    ensures { λ r. ⌜ PromisedStart time settings (copiedOf (now (profiles .entry))) r ⌝ }
 {
     let held = profile_list::copied(profiles);
     by_value::start(time, settings, held)
@@ -45,7 +44,7 @@ pub fn call(
 ) -> Answered
     ensures { λ r. ⌜ r ≡ step state (callOf time call (bringing brought (copiedOf (now (profiles .entry)))) (now (cmd .entry)) (now (area .entry))) ⌝ }
     ensures { λ r. ⌜ now (area .exit) ≡ areaOf state time call (bringing brought (copiedOf (now (profiles .entry)))) (now (cmd .entry)) (now (area .entry)) ⌝ }
-    ensures { λ r. ⌜ Promised state (callOf time call (bringing brought (copiedOf (now (profiles .entry)))) (now (cmd .entry)) (now (area .entry))) (r .answer) ⌝ }
+    ensures { λ r. ⌜ Promised state (callOf time call (bringing brought (copiedOf (now (profiles .entry)))) (now (cmd .entry)) (now (area .entry))) r ⌝ }
 {
     let held = profile_list::copied(profiles);
     let brought = bringing(brought, held);

@@ -14,7 +14,7 @@ use Rattle.base.specs.Write.{over, over-length, take-over}
 use Rattle.text.specs.Cut.{placeOf, headOf, place-le}
 use Rattle.lines.specs.declared.Reading.{Reading}
 use Rattle.lines.specs.declared.Fed.{Fed}
-use Rattle.lines.specs.Reading.{startReading, placeIn, keptOf, keptBytes, fedOf, answersOf}
+use Rattle.lines.specs.Reading.{startReading, placeIn, keptOf, keptBytes, fedOf, answersOf, Holds}
 
 -- What of the bytes s has room.
 roomy : (d : List ℕ) (r : Reading) (s : List ℕ) → placeIn d r + length (take (length d - placeIn d r) s) ≤ length d
@@ -62,12 +62,6 @@ module _ (d : List ℕ) (r : Reading) (input : List ℕ) where
 
     pub fed-within : f .reading .len ≤ length d
     fed-within = rw e line-within
-
--- The bytes s of a line are read: the memory d holds as many of them as it has room for.
-pub record Holds (d : List ℕ) (r : Reading) (s : List ℕ) : Type 0 where
-  pub len-is : r .len ≡ min (length s) (length d)
-  pub long-is : r .long ≡ ltb (length d) (length s)
-  pub text-is : take (r .len) d ≡ take (length d) s
 
 pub holds-start : (d : List ℕ) → Holds d startReading []
 unfolding startReading

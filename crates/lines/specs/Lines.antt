@@ -10,8 +10,8 @@ use Rattle.base.specs.Choice.{pick, cases}
 use Rattle.base.specs.Times.{times}
 use Rattle.text.specs.Cut.{placeOf, headOf, tailOf, head-none, cut-whole, cut-none}
 use Rattle.lines.specs.declared.Reading.{Reading}
-use Rattle.lines.specs.Reading.{keptOf, keptBytes}
-use Rattle.lines.specs.Laws.{Holds, holds-more}
+use Rattle.lines.specs.Reading.{keptOf, keptBytes, Holds}
+use Rattle.lines.specs.Laws.{holds-more}
 
 -- The lines from within a line whose bytes so far are given.
 unfoldable pub linesFrom : List ℕ → List ℕ → List (List ℕ)

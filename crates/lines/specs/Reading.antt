@@ -3,6 +3,7 @@
 -- 35 is `#`. The memory's length is the longest line that is taken.
 use mathlib.Core.Bool.{Bool, true, false, not}
 use mathlib.Core.List.{List, [], _∷_}
+use mathlib.Core.Path.{_≡_}
 use Prim.Native.Nat.{ℕ, _+_, _-_, min}
 use lib.Dec.{eqb, leb, ltb}
 use lib.ListN.{length, take}
@@ -42,3 +43,9 @@ fedOf d r input =
 unfoldable pub answersOf : List ℕ → Bool
 answersOf [] = false
 answersOf (b ∷ s) = not (eqb b 35)
+
+-- The bytes s of a line are read: the memory d holds as many of them as it has room for.
+pub record Holds (d : List ℕ) (r : Reading) (s : List ℕ) : Type 0 where
+  pub len-is : r .len ≡ min (length s) (length d)
+  pub long-is : r .long ≡ ltb (length d) (length s)
+  pub text-is : take (r .len) d ≡ take (length d) s

@@ -14,13 +14,13 @@ ghost use lib.ListN.{length};
 ghost use Rattle.base.specs.Each.{someOf};
 ghost use Rattle.obd2.specs.Call.{reconnectCheck, connect, connectFailed};
 ghost use Rattle.obd2.specs.Core.{Lent, withPoller, boxOf, answeredOf};
-ghost use Rattle.obd2.specs.History.{inTime};
+ghost use Rattle.obd2.specs.Answers.{Answers};
 ghost use Rattle.obd2.specs.Refusals.{overRange};
 ghost use Rattle.poller.specs.Core.{withConnection, withRanges, knownRows};
 
 // Whether a reconnect may be tried.
 pub fn reconnect_check(mut core: Core, time: u64) -> Told
-    ensures { λ r. ⌜ ((x : Lent) → answeredOf x r ≡ inTime (boxOf x core) (reconnectCheck time)) ⌝ }
+    ensures { λ r. ⌜ ((x : Lent) → Answers (boxOf x core) (reconnectCheck time) (answeredOf x r)) ⌝ }
 {
     let poller = core.poller;
     let round = poller.round;
@@ -70,7 +70,7 @@ pub fn connect(
 ) -> Told
     requires { ⌜ length (now known) ≡ knownRows ⌝ }
     ensures { λ _. ⌜ length (now (known .exit)) ≡ knownRows ⌝ }
-    ensures { λ r. ⌜ ((x : Lent) → answeredOf (withPoller x (withConnection (x .polling) (now (known .exit)) (now (ranges .exit)))) r ≡ inTime (boxOf (withPoller x (withConnection (x .polling) (now (known .entry)) (now (ranges .entry)))) core) (connect time session)) ⌝ }
+    ensures { λ r. ⌜ ((x : Lent) → Answers (boxOf (withPoller x (withConnection (x .polling) (now (known .entry)) (now (ranges .entry)))) core) (connect time session) (answeredOf (withPoller x (withConnection (x .polling) (now (known .exit)) (now (ranges .exit)))) r)) ⌝ }
 {
     let told = session.ranges;
     if any_over(told) {
@@ -91,7 +91,7 @@ pub fn connect(
 
 // A connection was tried and not made.
 pub fn connect_failed(ranges: &mut [[u8; RANGE_ROW]; RANGES], mut core: Core, time: u64) -> Told
-    ensures { λ r. ⌜ ((x : Lent) → answeredOf (withPoller x (withRanges (x .polling) (now (ranges .exit)))) r ≡ inTime (boxOf (withPoller x (withRanges (x .polling) (now (ranges .entry)))) core) (connectFailed time)) ⌝ }
+    ensures { λ r. ⌜ ((x : Lent) → Answers (boxOf (withPoller x (withRanges (x .polling) (now (ranges .entry)))) core) (connectFailed time) (answeredOf (withPoller x (withRanges (x .polling) (now (ranges .exit)))) r)) ⌝ }
 {
     let poller = core.poller;
     let round = poller.round;

@@ -8,7 +8,7 @@ use lib.Dec.{eqb}
 use lib.ListN.{length, getD, length-append, replicate, length-set, length-replicate}
 use lib.Seq.{getD-set-same, getD-set-other}
 use borrow.Author.Tests.{eqb-true, eqb-false}
-use Rattle.base.specs.Choice.{pick, cases}
+use Rattle.base.specs.Choice.{cases}
 use Rattle.control.specs.Speed.{untracked, afterAll, after-append}
 use Rattle.control.specs.Names.{Named, named-none, named-append}
 use Rattle.control.specs.Outbox.{emptyOf, sendAll, messages, send-append, sent-messages, sent-count}
@@ -17,29 +17,16 @@ use Rattle.control.specs.declared.DongleMessage.{DongleMessage}
 use Rattle.control.specs.declared.outbox.Outbox.{Outbox}
 use Rattle.pid_table.specs.Entry.{nobody, speed}
 use Rattle.pid_table.specs.declared.PidInfo.{PidInfo}
-use Rattle.passes.specs.Sweep.{through, news}
-use Rattle.passes.specs.Laws.{speedAt, through-length, news-append, news-speeds, news-few, upkeep-once, register-once, registering-once}
+use Rattle.passes.specs.Sweep.{through, news, speedAt}
+use Rattle.passes.specs.Laws.{through-length, news-append, news-speeds, news-few, upkeep-once, register-once, registering-once}
 use Rattle.passes.specs.declared.Terms.{Terms}
 use Rattle.manager.specs.Calls.{withTable, registering, maintenance, dueOf, maintainOf, finishOf, noTable, registerOf, startOf, entrySet, entryTold, waitingAt, consumedAt, after, sent, handleOf}
+use Rattle.manager.specs.Tells.{Tells, finishSent, Names}
 use Rattle.manager.specs.Names.{news-named, entry-named}
 use Rattle.manager.specs.Cases.{finish-due, finish-not-due}
 use Rattle.manager.specs.declared.Manager.{Manager}
 use Rattle.manager.specs.declared.Event.{Event}
 use Rattle.manager.specs.declared.Event.the-variants.{ProfilePidsChanged, Waiting, Consumed, Nothing}
-use Rattle.manager.specs.declared.Answer.{Answer}
-
--- The law of a call that found this table, had this to send and gave this answer.
-pub record Tells (before : List PidInfo) (sent : List DongleMessage) (a : Answer) : Type 0 where
-  pub whole : length (a .manager .table) ≡ 256
-  pub said : messages (a .outbox) ≡ sent
-  pub few : a .outbox .count ≤ 257
-  pub counted : length (messages (a .outbox)) ≡ a .outbox .count
-  pub agrees : (q : ℕ) → afterAll (messages (a .outbox)) q (speedAt before q) ≡ speedAt (a .manager .table) q
-  pub small : Named 256 (messages (a .outbox))
-
--- What the end of a call sends.
-unfoldable pub finishSent : Manager → Terms → List DongleMessage
-finishSent m t = pick (dueOf (m .last) (t .now)) (news t maintenance (m .table)) []
 
 pub finish-named : (m : Manager) (t : Terms) → length (m .table) ≡ 256 → Named 256 (finishSent m t)
 unfolding finishSent
@@ -120,13 +107,6 @@ module _ (m : Manager) (t : Terms) (w : length (m .table) ≡ 256) where
   changed-few = cases _ (dueOf (m .last) (t .now))
       (λ e. rw (e, ← (news-append t registering maintenance (m .table))) (rw w at (news-few t (registering ++ maintenance) (m .table) (λ q x. register-once t q x))))
       (λ e. rw (e, append-nil (news t registering (m .table))) (rw w at (news-few t registering (m .table) (λ q x. registering-once t q x))))
-
-  -- An event names a PID of the table.
-  abbrev pub Names : Event → Type 0
-  Names ProfilePidsChanged = Unit {0}
-  Names (Waiting p) = p < 256
-  Names (Consumed p d) = p < 256
-  Names Nothing = Unit {0}
 
   -- EVERY CALL tells what its event and its maintenance made of the table.
   pub handle-tells : (e : Event) → Names e → Tells (m .table) (sent m t e ++ finishSent (after m t e) t) (handleOf m t e)

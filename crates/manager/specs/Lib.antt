@@ -1,4 +1,5 @@
 pub mod Calls
+pub mod Tells
 pub mod Cases
 pub mod Names
 pub mod Laws

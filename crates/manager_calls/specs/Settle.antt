@@ -11,7 +11,7 @@ use Rattle.desk.specs.Core.{deskOf}
 use Rattle.manager.specs.Rows.{managerOf}
 use Rattle.manager.specs.declared.rows.Core.{Core as ManagerCore}
 use Rattle.obd2.specs.Accepted.{manager-numbered}
-use Rattle.obd2.specs.Answers.{settled-here, settled-next, settled-among, settled-none, settled-past}
+use Rattle.obd2.specs.Answers.{Answers, answers, settled-here, settled-next, settled-among, settled-none, settled-past}
 use Rattle.obd2.specs.Call.{ManagerCall, manager}
 use Rattle.obd2.specs.Core.{Lent, boxOf, answeredOf, refusing}
 use Rattle.obd2.specs.Done.{Managing, managerBy, managing, manages, doneOf}
@@ -53,13 +53,13 @@ module _ (s : State) (t : ℕ) (r : Managing) (x : Sent) (e : x ≡ sendOf (s .m
 
 -- A call whose own rows give n: refused by it, or settled.
 module _ (s : State) (t : ℕ) (c : ManagerCall) (n : ℕ) (e : n ≡ firstOf (managerRows s c)) {a : Answered} where
-  pub own-refused : (n ≡ 0 → ⊥) → a ≡ refused s n → a ≡ inTime s (manager t c)
+  pub own-refused : (n ≡ 0 → ⊥) → a ≡ refused s n → Answers s (manager t c) a
   unfolding inTime rowRefusal rowsOf
-  own-refused h f = settled-among s _ n (managerRows s c) _ e h f
+  own-refused h f = answers (settled-among s _ n (managerRows s c) _ e h f)
 
-  pub own-settled : n ≡ 0 → a ≡ settleOf s t (managerBy s c) → a ≡ inTime s (manager t c)
+  pub own-settled : n ≡ 0 → a ≡ settleOf s t (managerBy s c) → Answers s (manager t c) a
   unfolding inTime rowRefusal rowsOf doneOf settleOf
-  own-settled h f = settled-past s _ n (managerRows s c) _ e (manager-numbered s c) h f
+  own-settled h f = answers (settled-past s _ n (managerRows s c) _ e (manager-numbered s c) h f)
 
 -- The rest of the box with another manager's and line's.
 abbrev pub handling : Core → ManagerCore → Ends → Core

@@ -25,7 +25,7 @@ ghost use Rattle.manager_calls.specs.Settle.{settleOf};
 ghost use Rattle.obd2.specs.Call.{profilePidsChanged, consumed};
 ghost use Rattle.obd2.specs.Core.{Lent, withManager, boxOf, answeredOf};
 ghost use Rattle.obd2.specs.Done.{withoutValues};
-ghost use Rattle.obd2.specs.History.{inTime};
+ghost use Rattle.obd2.specs.Answers.{Answers};
 ghost use Rattle.obd2.specs.Refusals.{exceeds};
 ghost use Rattle.obd2.specs.declared.Said.the-variants.{Done};
 
@@ -176,7 +176,7 @@ pub fn consumed(
     ensures { λ _. ⌜ length (now (rates .exit)) ≡ 256 ⌝ }
     ensures { λ r. ⌜ (r .notes .summary .ran ≡ false → now (pids .exit) ≡ now (pids .entry)) ⌝ }
     ensures { λ r. ⌜ (r .notes .summary .ran ≡ false → now (rates .exit) ≡ now (rates .entry)) ⌝ }
-    ensures { λ r. ⌜ ((x : Lent) → answeredOf (withManager x (now (table .exit)) (now (slots .exit)) (now (pids .exit)) (now (rates .exit))) r ≡ inTime (boxOf (withManager x (now (table .entry)) (now (slots .entry)) (now (pids .entry)) (now (rates .entry))) core) (consumed time pid wait)) ⌝ }
+    ensures { λ r. ⌜ ((x : Lent) → Answers (boxOf (withManager x (now (table .entry)) (now (slots .entry)) (now (pids .entry)) (now (rates .entry))) core) (consumed time pid wait) (answeredOf (withManager x (now (table .exit)) (now (slots .exit)) (now (pids .exit)) (now (rates .exit))) r)) ⌝ }
 {
     let metrics = core.manager.metrics;
     if report::metrics::refused(metrics, wait) {
@@ -213,7 +213,7 @@ pub fn profile_pids_changed(
     ensures { λ _. ⌜ length (now (rates .exit)) ≡ 256 ⌝ }
     ensures { λ r. ⌜ (r .notes .summary .ran ≡ false → now (pids .exit) ≡ now (pids .entry)) ⌝ }
     ensures { λ r. ⌜ (r .notes .summary .ran ≡ false → now (rates .exit) ≡ now (rates .entry)) ⌝ }
-    ensures { λ r. ⌜ ((x : Lent) → answeredOf (withManager x (now (table .exit)) (now (slots .exit)) (now (pids .exit)) (now (rates .exit))) r ≡ inTime (boxOf (withManager x (now (table .entry)) (now (slots .entry)) (now (pids .entry)) (now (rates .entry))) core) (profilePidsChanged time profiles)) ⌝ }
+    ensures { λ r. ⌜ ((x : Lent) → Answers (boxOf (withManager x (now (table .entry)) (now (slots .entry)) (now (pids .entry)) (now (rates .entry))) core) (profilePidsChanged time profiles) (answeredOf (withManager x (now (table .exit)) (now (slots .exit)) (now (pids .exit)) (now (rates .exit))) r)) ⌝ }
 {
     if profile_check::bad_profiles(profiles) {
         return telling::refuse(core, 2);

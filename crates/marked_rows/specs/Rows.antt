@@ -7,31 +7,47 @@ use Prim.Native.Nat.{ℕ, _+_, _-_}
 use lib.ListN.{length, replicate, take}
 use Rattle.base.specs.Choice.{pick}
 use Rattle.base.specs.Count.{moreOf}
-use Rattle.ascii.specs.Chars.{upper, hexValue, between}
+use Rattle.base.specs.Letters.{letters}
+use Rattle.ascii.specs.Chars.{upper, hexValue, hexDigit, between}
 use Rattle.capture.specs.Format.{recordBytes, le}
 use Rattle.command.specs.Classify.{commandOf, stripped, sameText, rangeTexts, indexOf, pidOf}
-use Rattle.command.specs.declared.Command.{Command}
-use Rattle.command.specs.declared.Command.the-variants as command
-use Rattle.config.specs.declared.PidPriority.the-variants.{Slow}
+use Rattle.config.specs.declared.PidPriority.the-variants.{Fast, Slow}
+use Rattle.control.specs.declared.DongleMessage.{DongleMessage}
+use Rattle.control.specs.declared.DongleMessage.the-variants.{SetPidPriority, RemovePid}
 use Rattle.delivery.specs.Rules.{revsAfter}
 use Rattle.pid.specs.Laws.{revs-length}
 use Rattle.pid.specs.declared.DataLength.{DataLength}
 use Rattle.pid.specs.declared.DataLength.the-variants as data-length
-use Rattle.pid_list.specs.Rules.{entries, sizeOf, place, wrap, swapOut, appendOf, fitOf, removeOf, setOf, nextOf}
+use Rattle.pid_list.specs.Rules.{emptyList, entries, sizeOf, place, wrap, swapOut, appendOf, fitOf, removeOf, setOf, nextOf}
 use Rattle.pid_list.specs.declared.PidList.{PidList}
 use Rattle.pid_table.specs.Entry.{isFast, promotesOf, consumedOf, pastOf, looseOf, idleOf, removedOf}
 use Rattle.pid_table.specs.declared.PidInfo.{PidInfo}
 use Rattle.pid_table.specs.declared.LastTime.the-variants.{Never, At}
 use Rattle.pid_table.specs.declared.WaitDuration.the-variants.{Miss}
+use Rattle.poller.specs.Calls.{appliedOf, applyOf}
+use Rattle.poller.specs.State.{startOf, withLists}
+use Rattle.poller.specs.declared.Poller.{Poller}
 use Rattle.reply.specs.Rules.{firstLine, firstLengthOf, lengthsOf}
 use Rattle.reply.specs.declared.Reply.{Reply}
+use Rattle.transcript.specs.Lines.{className, numberText, tailText, lastText, output}
 use Rattle.value.specs.Rules.{widthOf, dataOf, foldOf, valueBy, valueOf}
 
--- A command's class and number: 0 a range, 1 a PID, 2 `?`.
-abbrev numbersOf : Command → List ℕ
-numbersOf (command.Range n) = 0 ∷ n ∷ []
-numbersOf (command.Pid p) = 1 ∷ p ∷ []
-numbersOf command.Unknown = 2 ∷ []
+-- The document's four lines and the two commands named beside them; what the program `commands` prints for these.
+abbrev pub input : List ℕ
+input = letters "010C\n01001\n+10C\nATZ\n010c0D\n010\n"
+
+abbrev pub printed : List ℕ
+printed =
+    letters "010C\tpid\t0C\n"
+    ++ (letters "01001\trange\t0\n"
+    ++ (letters "+10C\t?\t-\n"
+    ++ (letters "ATZ\t?\t-\n"
+    ++ (letters "010c0D\tpid\t0C\n"
+    ++ letters "010\t?\t-\n"))))
+
+prints : output [] input ≡ printed
+unfolding output lastText tailText className numberText hexDigit commandOf stripped sameText rangeTexts indexOf pidOf upper hexValue between
+prints = refl
 
 -- A reply of one line.
 abbrev line : List ℕ → Reply
@@ -52,39 +68,32 @@ keptRow now = pick (removedOf 4000 now slow .tracked) 1 0 ∷ []
 abbrev fastRow : ℕ → List ℕ
 fastRow wait = pick (isFast (consumedOf (promotesOf 1 40 (Miss wait)) 0 slow .priority)) 1 0 ∷ []
 
--- A list's entries, and the next PID.
+-- The fast list of a poller: its entries and the next PID after a control message.
 abbrev three : ℕ → ℕ → ℕ → ℕ → PidList
 three a b c index = record { pids = a ∷ b ∷ c ∷ replicate 253 0; len = 3; index = index }
 
-abbrev listRow : PidList → List ℕ
-listRow l = entries l ++ (nextOf l .pid ∷ [])
+abbrev polling : PidList → Poller
+polling l = withLists (startOf 0) l emptyList
+
+abbrev listRow : PidList → DongleMessage → List ℕ
+listRow l m = entries (applyOf (polling l) m .fast) ++ (nextOf (applyOf (polling l) m .fast) .pid ∷ [])
 
 abbrev pub results : List (List ℕ)
 results =
-    numbersOf (commandOf (48 ∷ 49 ∷ 48 ∷ 67 ∷ []))  -- 010C
-    ∷ numbersOf (commandOf (48 ∷ 49 ∷ 48 ∷ 48 ∷ 49 ∷ []))  -- 01001
-    ∷ numbersOf (commandOf (43 ∷ 49 ∷ 48 ∷ 67 ∷ []))  -- +10C
-    ∷ numbersOf (commandOf (65 ∷ 84 ∷ 90 ∷ []))  -- ATZ
-    ∷ numbersOf (commandOf (48 ∷ 49 ∷ 48 ∷ 99 ∷ 48 ∷ 68 ∷ []))  -- 010c0D
-    ∷ numbersOf (commandOf (48 ∷ 49 ∷ 48 ∷ []))  -- 010
+    output [] input
     ∷ valueRow (0x41 ∷ 0x0c ∷ 0x1a ∷ 0xf8 ∷ [])
     ∷ valueRow (0x41 ∷ 0x0c ∷ 0x01 ∷ 0x02 ∷ 0x03 ∷ 0x04 ∷ 0x05 ∷ [])
     ∷ keptRow 4000
     ∷ keptRow 4001
     ∷ fastRow 39
     ∷ fastRow 40
-    ∷ listRow (removeOf (three 1 2 3 2) 1)
-    ∷ listRow (setOf (three 4 5 6 1) 4)
+    ∷ listRow (three 1 2 3 2) (RemovePid 1)
+    ∷ listRow (three 4 5 6 1) (SetPidPriority 4 Fast)
     ∷ recordBytes 4294967297 1 (0x41 ∷ 0x0c ∷ [])
     ∷ []
 
 pub rows : results
-    ≡ (1 ∷ 12 ∷ [])
-    ∷ (0 ∷ 0 ∷ [])
-    ∷ (2 ∷ [])
-    ∷ (2 ∷ [])
-    ∷ (1 ∷ 12 ∷ [])
-    ∷ (2 ∷ [])
+    ≡ printed
     ∷ (6904 ∷ 1726 ∷ [])
     ∷ (258 ∷ 64 ∷ [])
     ∷ (1 ∷ [])
@@ -95,8 +104,8 @@ pub rows : results
     ∷ (6 ∷ 5 ∷ 4 ∷ 5 ∷ [])
     ∷ (0x01 ∷ 0x00 ∷ 0x00 ∷ 0x00 ∷ 0x01 ∷ 0x02 ∷ 0x00 ∷ 0x41 ∷ 0x0c ∷ [])
     ∷ []
-unfolding commandOf stripped sameText rangeTexts indexOf pidOf upper hexValue between recordBytes le revsAfter entries sizeOf place wrap swapOut appendOf fitOf removeOf setOf nextOf isFast promotesOf consumedOf moreOf pastOf looseOf idleOf removedOf valueOf valueBy widthOf dataOf firstLine firstLengthOf lengthsOf foldOf
-rows = rw revs-length
+unfolding recordBytes le revsAfter entries sizeOf place wrap swapOut appendOf fitOf removeOf setOf nextOf appliedOf isFast promotesOf consumedOf moreOf pastOf looseOf idleOf removedOf valueOf valueBy widthOf dataOf firstLine firstLengthOf lengthsOf foldOf
+rows = rw (prints, revs-length)
 
 -- A1: a line with n bytes behind mode and PID. A row is the values with n - 1, n and n + 1 of them: fewer than the data length, as
 -- many, and more; where there is none, about the four that are then read.

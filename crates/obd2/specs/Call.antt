@@ -2,9 +2,10 @@
 -- client's call changes the desk alone, one of the connection or of a round the poller alone.
 use mathlib.Core.List.{List, [], _∷_}
 use mathlib.Core.Path.{_≡_}
-use Prim.Native.Nat.{ℕ, _<_}
+use Prim.Native.Nat.{ℕ, _<_, _≤_}
 use lib.ListN.{length, getD}
 use Rattle.base.specs.Bytes.{Bytes}
+use Rattle.base.specs.Count.{most}
 use Rattle.config.specs.declared.Profiles.{Profiles}
 use Rattle.config.specs.declared.Settings.{Settings}
 use Rattle.link.specs.declared.Session.{Session}
@@ -105,13 +106,16 @@ next t = round t Next
 abbrev pub result : ℕ → Outcome → Call
 result t o = round t (Result o)
 
--- What a caller can hand in: PIDs and a reply's bytes are bytes and arrays have their lengths, since antt's numbers and lists
--- have no bounds of their own. Times, client numbers, commands, areas and settings may be any.
+-- What a caller can hand in: PIDs and a reply's bytes are bytes, a ratio has 32 bits and arrays have their lengths, since antt's
+-- numbers and lists have no bounds of their own. Times, client numbers, commands, areas and other settings may be any.
 pub record FitResponse (r : Response) : Type 0 where
   pub six : length (r .pids) ≡ 6
   pub small : Bytes (r .pids)
   pub replies : length (r .replies) ≡ 6
   pub bytes : (i : ℕ) → Bytes (getD (r .replies) i noReply .bytes)
+
+abbrev pub FitSettings : Settings → Type 0
+FitSettings st = st .ratio ≤ most
 
 abbrev pub FitManager : ManagerCall → Type 0
 FitManager Register = Unit {0}
@@ -125,7 +129,7 @@ FitManager Tick = Unit {0}
 abbrev pub Fit : Call → Type 0
 Fit (manager t c) = FitManager c
 Fit (cache t c) = Unit {0}
-Fit (settings t st) = Unit {0}
+Fit (settings t st) = FitSettings st
 Fit (takeControl t) = Unit {0}
 Fit (link t c) = Unit {0}
 Fit (round t c) = Unit {0}
@@ -134,3 +138,8 @@ Fit (round t c) = Unit {0}
 pub data Calls : List Call → Type 0 where
   none : Calls []
   more : {c : Call} {cs : List Call} → Fit c → Calls cs → Calls (c ∷ cs)
+
+-- A start's settings and the calls after it, as a caller can make them.
+pub record Made (st : Settings) (cs : List Call) : Type 0 where
+  pub start : FitSettings st
+  pub calls : Calls cs

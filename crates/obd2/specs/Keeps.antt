@@ -8,7 +8,7 @@ use lib.Dec.{eqb}
 use borrow.Author.Tests.{eqb-true}
 use Rattle.base.specs.Choice.{pick, cases}
 use Rattle.base.specs.Refusal.{first-here, first-next}
-use Rattle.obd2.specs.Answers.{numberIn, settled-done, settled-refused}
+use Rattle.obd2.specs.Answers.{Tells, settled-tells, Answers, answers, settled-done, settled-refused}
 use Rattle.obd2.specs.Call.{Call, Fit, Calls, none, more, timeOf}
 use Rattle.obd2.specs.Done.{doneOf}
 use Rattle.obd2.specs.History.{refused, accepting, step, inTime, run, acceptedBy}
@@ -37,13 +37,13 @@ module _ (s : State) (c : Call) where
 
   -- A call whose time is taken, and of which a component told the refusal n.
   module _ (n : ℕ) (e : n ≡ rowRefusal s c) {a : Answered} where
-    pub told-refused : (n ≡ 0 → ⊥) → a ≡ refused s n → a ≡ inTime s c
+    pub told-refused : (n ≡ 0 → ⊥) → a ≡ refused s n → Answers s c a
     unfolding inTime
-    told-refused h f = settled-refused s _ (rowRefusal s c) (sym e) h f
+    told-refused h f = answers (settled-refused s _ (rowRefusal s c) (sym e) h f)
 
-    pub told-done : n ≡ 0 → a ≡ accepting (timeOf c) (doneOf s c) → a ≡ inTime s c
+    pub told-done : n ≡ 0 → a ≡ accepting (timeOf c) (doneOf s c) → Answers s c a
     unfolding inTime
-    told-done h f = settled-done s _ (rowRefusal s c) (sym e ∙ h) f
+    told-done h f = answers (settled-done s _ (rowRefusal s c) (sym e ∙ h) f)
 
   -- The box that an accepted call leaves.
   abbrev pub after : State
@@ -62,9 +62,9 @@ module _ (s : State) (c : Call) where
   step-leaves f k = step-keeps (λ x. f x ≡ f s) refl k
 
   -- "the answers tell which were accepted"
-  pub step-number : numberIn (step s c .answer) ≡ refusalOf s c
+  pub step-tells : Tells (refusalOf s c) (doneOf s c .said) (doneOf s c .details) (step s c)
   unfolding step
-  step-number = cases _ (eqb (refusalOf s c) 0) (λ e. rw e (sym (eqb-true _ 0 e))) (λ e. rw e)
+  step-tells = settled-tells (refusalOf s c) s after (doneOf s c .said) (doneOf s c .details) refl
 
   pub accepted-is : acceptedBy (step s c .answer) ≡ eqb (refusalOf s c) 0
   unfolding step

@@ -18,7 +18,7 @@ use Rattle.pid_table.specs.declared.PidInfo.{PidInfo}
 use Rattle.pid_table.specs.declared.Wish.{Wish}
 use Rattle.pid_table.specs.declared.Wish.the-variants.{Unwanted, Wanted}
 use Rattle.passes.specs.Wishes.{wishOf}
-use Rattle.passes.specs.Sweep.{entryAfter, swept, tidings, sweepOf, through, news, sweepsOf, upkeep, swept-length, swept-at}
+use Rattle.passes.specs.Sweep.{entryAfter, swept, tidings, sweepOf, through, news, sweepsOf, upkeep, swept-length, swept-at, entryThrough, speedAt, changes}
 use Rattle.passes.specs.declared.Ledger.{Ledger}
 use Rattle.passes.specs.declared.Terms.{Terms}
 use Rattle.passes.specs.declared.Pass.{Pass}
@@ -36,11 +36,6 @@ pub through-length : (t : Terms) (ps : List Pass) (xs : List PidInfo) → length
 unfolding through
 through-length t [] xs = refl
 through-length t (a ∷ ps) xs = through-length t ps (swept (entryAfter a t) 0 xs) ∙ swept-length (entryAfter a t) 0 xs
-
--- What passes make of one entry, which depends on that entry alone.
-unfoldable pub entryThrough : Terms → List Pass → ℕ → PidInfo → PidInfo
-entryThrough t [] q x = x
-entryThrough t (a ∷ ps) q x = entryThrough t ps q (entryAfter a t q x)
 
 pub through-at : (t : Terms) (ps : List Pass) (xs : List PidInfo) (q : ℕ) (d : PidInfo) → q < length xs
     → getD (through t ps xs) q d ≡ entryThrough t ps q (getD xs q d)
@@ -60,10 +55,6 @@ news-append t (a ∷ ps) bs xs =
     (sym (append-assoc (tidings (entryAfter a t) 0 xs) (news t ps (swept (entryAfter a t) 0 xs)) (news t bs (through t ps (swept (entryAfter a t) 0 xs)))))
 
 -- ---- the speeds
-
--- The speed of q by a table; what is not in it is not tracked.
-unfoldable pub speedAt : List PidInfo → ℕ → Speed
-speedAt xs q = speed (getD xs q nobody)
 
 module _ (f : ℕ → PidInfo → PidInfo) where
   quiet : (p : ℕ) (xs : List PidInfo) (q : ℕ) (s : Speed) → q < p → afterAll (tidings f p xs) q s ≡ s
@@ -101,12 +92,7 @@ news-speeds t (a ∷ ps) xs q =
 
 -- ---- how many messages
 
--- How often passes tell of one entry.
-unfoldable pub changes : Terms → List Pass → ℕ → PidInfo → ℕ
-changes t [] p x = 0
-changes t (a ∷ ps) p x = length (toldOf p (speed x) (speed (entryAfter a t p x))) + changes t ps p (entryAfter a t p x)
-
--- The same for the entries from PID p on.
+-- How often passes tell of the entries from PID p on.
 allNews : Terms → List Pass → ℕ → List PidInfo → ℕ
 allNews t [] p xs = 0
 allNews t (a ∷ ps) p xs = length (tidings (entryAfter a t) p xs) + allNews t ps p (swept (entryAfter a t) p xs)

@@ -8,10 +8,11 @@ use lib.ListN.{length, getD, set, take, drop, drop-of-length-le}
 use lib.Seq.{drop-cons, take-suc-set, drop-set-lt, set-getD, take-all}
 use Rattle.config.specs.InForce.{inForce}
 use Rattle.control.specs.Outbox.{sendAll, send-append, send-none}
+use Rattle.control.specs.Speed.{Speed}
 use Rattle.control.specs.Told.{toldOf, told-same}
 use Rattle.control.specs.declared.DongleMessage.{DongleMessage}
 use Rattle.control.specs.declared.outbox.Outbox.{Outbox}
-use Rattle.pid_table.specs.Entry.{speed, registeredOf, demotedOf, removedOf, clearedOf}
+use Rattle.pid_table.specs.Entry.{nobody, speed, registeredOf, demotedOf, removedOf, clearedOf}
 use Rattle.pid_table.specs.declared.PidInfo.{PidInfo}
 use Rattle.passes.specs.Wishes.{wishOf}
 use Rattle.passes.specs.declared.Ledger.{Ledger}
@@ -51,6 +52,20 @@ news t (a ∷ ps) xs = tidings (entryAfter a t) 0 xs ++ news t ps (swept (entryA
 unfoldable pub sweepsOf : Terms → List Pass → Ledger → Ledger
 sweepsOf t [] l = l
 sweepsOf t (a ∷ ps) l = sweepsOf t ps (sweepOf (entryAfter a t) l)
+
+-- What passes make of one entry, which depends on that entry alone.
+unfoldable pub entryThrough : Terms → List Pass → ℕ → PidInfo → PidInfo
+entryThrough t [] q x = x
+entryThrough t (a ∷ ps) q x = entryThrough t ps q (entryAfter a t q x)
+
+-- The speed of q by a table; what is not in it is not tracked.
+unfoldable pub speedAt : List PidInfo → ℕ → Speed
+speedAt xs q = speed (getD xs q nobody)
+
+-- How often passes tell of one entry.
+unfoldable pub changes : Terms → List Pass → ℕ → PidInfo → ℕ
+changes t [] p x = 0
+changes t (a ∷ ps) p x = length (toldOf p (speed x) (speed (entryAfter a t p x))) + changes t ps p (entryAfter a t p x)
 
 -- The passes of maintenance up to the report. After it, counts are cleared.
 abbrev pub upkeep : List Pass

@@ -65,7 +65,7 @@ fn bring_outcome(mut brought: Brought, read: OutcomeRead) -> Bringing {
 }
 
 // Puts what a line brings in the place of what such a line brought before; a bad list leaves it as it was.
-pub fn bring(brought: Brought, list: List, line: &[u8], round: Round) -> Bringing {
+pub(crate) fn bring(brought: Brought, list: List, line: &[u8], round: Round) -> Bringing {
     match list {
         List::None => Bringing {
             brought,
@@ -83,7 +83,7 @@ pub fn bring(brought: Brought, list: List, line: &[u8], round: Round) -> Bringin
 }
 
 // A line whose list is bad is bad.
-pub fn if_good(task: Task, good: bool) -> Task {
+pub(crate) fn if_good(task: Task, good: bool) -> Task {
     if good {
         return task;
     }

@@ -95,7 +95,7 @@ fn list_of(line: Line) -> List {
     }
 }
 
-pub fn brings(list: List) -> bool {
+pub(crate) fn brings(list: List) -> bool {
     match list {
         List::None => false,
         _ => true,
@@ -129,7 +129,13 @@ fn read_line(notes: Notes, line: &[u8], long: bool, bytes: &mut [u8], out: &[u8]
 }
 
 // What is to be done once a part of the input was read, of which `line` is the line.
-pub fn take_line(mut notes: Notes, fed: Fed, line: &[u8], bytes: &mut [u8], out: &[u8]) -> Taken {
+pub(crate) fn take_line(
+    mut notes: Notes,
+    fed: Fed,
+    line: &[u8],
+    bytes: &mut [u8],
+    out: &[u8],
+) -> Taken {
     let read = fed.reading;
     if !fed.ended {
         notes.reading = read;

@@ -10,7 +10,6 @@ use Rattle.base.specs.Choice.{cases}
 use Rattle.base.specs.Count.{moreOf}
 use Rattle.config.specs.declared.Settings.{Settings}
 use Rattle.link.specs.Rules.{isNo}
-use Rattle.pid_list.specs.Laws.{size-le, size-entries}
 use Rattle.pid_list.specs.Rules.{entries, nextOf as nextPid}
 use Rattle.plan.specs.Left.{keysOf, take-left, plan-left}
 use Rattle.plan.specs.Steps.{leftOf, takeOf, planOf}
@@ -157,20 +156,17 @@ unfolding endsWithin
 round-ends [] p h = absurd (omega arith)
 round-ends (u ∷ us) p h = turn-ends u us p (queriesLeft p) (next-stride p (u .asked)) (λ z. round-ends us (turned u p) (omega arith))
 
--- A round that begins has at most 512 queries, so at most 513 turns.
-pub begin-left : (p : Poller) (s : Settings) → length (p .fast .pids) ≡ 256 → length (p .slow .pids) ≡ 256
-    → (openOf (beginOf p s .round .phase) ≡ true) × (dueOf (beginOf p s .round .phase) ≡ false) × (queriesLeft (beginOf p s) ≤ 512)
-begin-left p s f g =
+-- A round that begins has at most as many queries as the lists have entries, or a single round's two.
+pub begin-left : (p : Poller) (s : Settings) (n : ℕ) → length (p .fast .pids) ≡ 256 → length (p .slow .pids) ≡ 256 → length (entries (p .fast)) + length (entries (p .slow)) ≤ n → 2 ≤ n
+    → (openOf (beginOf p s .round .phase) ≡ true) × (dueOf (beginOf p s .round .phase) ≡ false) × (queriesLeft (beginOf p s) ≤ n)
+begin-left p s n f g few two =
     cases _ (p .link .connected)
     (λ e. cases _ (multiAllowed (s .multi) (isNo (p .link .features .multi)))
     (λ m. rw (begin-multi p s e m) (refl, refl, most))
     (λ m. rw (begin-single p s e m) (refl, refl, omega arith)))
     (λ e. rw (begin-over p s e) (refl, refl, omega arith))
   where
-    most : length (leftOf (planOf (p .fast) (p .slow) (p .counts) (p .link .known) (s .maxpids))) ≤ 512
+    most : length (leftOf (planOf (p .fast) (p .slow) (p .counts) (p .link .known) (s .maxpids))) ≤ n
     most =
-        let n = round-length (keysOf (p .counts) (p .link .known)) (s .maxpids) (entries (p .fast) ++ entries (p .slow)) in
-        let a = size-entries (p .fast) f in
-        let b = size-entries (p .slow) g in
-        rw (plan-left (p .fast) (p .slow) (p .counts) (p .link .known) (s .maxpids) f g)
-        (omega (arith, length-append (entries (p .fast)) (entries (p .slow)), size-le (p .fast .len), size-le (p .slow .len)))
+        let l = round-length (keysOf (p .counts) (p .link .known)) (s .maxpids) (entries (p .fast) ++ entries (p .slow)) in
+        rw (plan-left (p .fast) (p .slow) (p .counts) (p .link .known) (s .maxpids) f g) (omega (arith, length-append (entries (p .fast)) (entries (p .slow))))

@@ -12,7 +12,7 @@ ghost use lib.ListN.{length};
 ghost use Rattle.obd2.specs.Call.{takeControl};
 ghost use Rattle.obd2.specs.Core.{Lent, withLine, boxOf, answeredOf};
 ghost use Rattle.obd2.specs.Done.{listing};
-ghost use Rattle.obd2.specs.History.{inTime};
+ghost use Rattle.obd2.specs.Answers.{Answers};
 ghost use Rattle.poller.specs.Core.{Held, withPolled, polledRows, pollerOf};
 
 // The poller after what was taken: a message goes into its lists.
@@ -40,7 +40,7 @@ pub fn take_control(
 ) -> Told
     requires { ⌜ length (now polled) ≡ polledRows ⌝ }
     ensures { λ _. ⌜ length (now (polled .exit)) ≡ polledRows ⌝ }
-    ensures { λ r. ⌜ ((x : Lent) → answeredOf (withLine x (now (slots .entry)) (now (polled .exit))) r ≡ inTime (boxOf (withLine x (now (slots .entry)) (now (polled .entry))) core) (takeControl time)) ⌝ }
+    ensures { λ r. ⌜ ((x : Lent) → Answers (boxOf (withLine x (now (slots .entry)) (now (polled .entry))) core) (takeControl time) (answeredOf (withLine x (now (slots .entry)) (now (polled .exit))) r)) ⌝ }
 {
     let poller = core.poller;
     let round = poller.round;

@@ -23,3 +23,10 @@ keptOf n = pick (leb n 16) n 0
 -- Those records as they were lent, and no profile in the places behind them.
 unfoldable pub copiedOf : List Profile → Profiles
 copiedOf ps = record { list = take (keptOf (length ps)) ps ++ blanks (16 - keptOf (length ps)); count = countOf (length ps) }
+
+-- The array once i records are copied, and the count with it.
+unfoldable pub heldOf : List Profile → ℕ → List Profile
+heldOf ps i = take i ps ++ blanks (16 - i)
+
+abbrev pub partOf : List Profile → ℕ → Profiles
+partOf ps i = record { list = heldOf ps i; count = countOf (length ps) }

@@ -13,16 +13,8 @@ use Rattle.base.specs.Choice.{cases}
 use Rattle.config.specs.Blank.{noProfile}
 use Rattle.config.specs.InForce.{inForce}
 use Rattle.config.specs.declared.Profile.{Profile}
-use Rattle.config.specs.declared.Profiles.{Profiles}
 use Rattle.profile_check.specs.Check.{badProfiles}
-use Rattle.profile_list.specs.Copied.{copiedOf, countOf, keptOf, blanks}
-
--- The array once i records are copied, and the count with it.
-unfoldable pub heldOf : List Profile → ℕ → List Profile
-heldOf ps i = take i ps ++ blanks (16 - i)
-
-abbrev pub partOf : List Profile → ℕ → Profiles
-partOf ps i = record { list = heldOf ps i; count = countOf (length ps) }
+use Rattle.profile_list.specs.Copied.{copiedOf, countOf, keptOf, blanks, heldOf, partOf}
 
 -- One record more, at the first place that has none.
 pub part-next : (ps : List Profile) (i : ℕ) → i < length ps → i < 16

@@ -13,7 +13,7 @@ use Rattle.control_line.specs.Ring.{takeOf}
 use Rattle.control_line.specs.declared.Taken.{Taken}
 use Rattle.control_line.specs.declared.Taken.the-variants.{Message, Nothing}
 use Rattle.delivery.specs.Rules.{responseRefusal}
-use Rattle.desk.specs.Laws.{Sound}
+use Rattle.desk.specs.Sound.{Sound}
 use Rattle.desk.specs.Rules.{registerRefusal}
 use Rattle.link.specs.Cases.{connect-already, connect-made, fail-already, fail-made, reconnect-connection}
 use Rattle.link.specs.Rules.{isNo}

@@ -16,14 +16,15 @@ use Rattle.command.specs.Classify.{commandOf}
 use Rattle.command.specs.declared.Command.the-variants as command
 use Rattle.config.specs.declared.Profiles.{Profiles}
 use Rattle.config.specs.declared.Settings.{Settings}
-use Rattle.delivery.specs.Laws.{arrives, newestOf}
+use Rattle.delivery.specs.Rules.{arrives, newestOf}
 use Rattle.rounds.specs.Result.{isLost}
 use Rattle.reply.specs.Rules.{noReply, sizeOf, joinedOf}
 use Rattle.reply.specs.declared.Reply.{Reply}
 use Rattle.reply.specs.declared.Response.{Response}
-use Rattle.obd2.specs.Answers.{valuesOf}
+use Rattle.obd2.specs.Answers.{saidValues}
 use Rattle.obd2.specs.Call.{Call, manager, cache, settings, takeControl, link, round, Register, Leave, Respond, Changed, Waiting, Consumed, Tick, Ask, Collect, GiveUp, Connect, Fail, Check, Begin, Next, Result, register, ask, collect, Calls}
 use Rattle.obd2.specs.History.{Event, startOf, happened, accepted}
+use Rattle.obd2.specs.State.{noDetails}
 use Rattle.obd2.specs.declared.Answer.{Answer}
 use Rattle.obd2.specs.declared.Answer.the-variants.{Refused, Accepted}
 use Rattle.obd2.specs.declared.Said.{Said}
@@ -72,8 +73,8 @@ serving c f g = record { enters = none; leaves = none; gives = same; waits = λ 
 abbrev pub bringing : Response → Deed
 bringing r = record { enters = none; leaves = none; gives = same; waits = λ c. same; hands = λ c. none; brings = arrives r; reply = λ p. newestOf r p noReply; links = same }
 
--- What an answer says: an ask's answer, and the first of the values, a register's client number and a collect's PID. These
--- calls answer nothing else where they are accepted: `numbered`, `asked` and `collected` below.
+-- What an answer says: an ask's answer, and the first of the values, a register's client number and a collect's PID, whatever stands
+-- beside the answer. These calls answer nothing else where they are accepted: `numbered`, `asked` and `collected` below.
 abbrev pub askedIn : Said → Asking
 askedIn (Asked a) = a
 askedIn Started = asking.Unable
@@ -87,7 +88,7 @@ askedIn (Checked b) = asking.Unable
 askedIn (Step x) = asking.Unable
 
 abbrev pub firstIn : Said → ℕ
-firstIn a = getD (valuesOf a) 0 0
+firstIn a = getD (saidValues a noDetails) 0 0
 
 -- An accepted call, with what it says. The connection is what the accepted calls make of it, whatever they answer:
 -- connect makes it or finds it standing, and a connect that failed leaves it as it was.
@@ -136,7 +137,7 @@ pub record Figures : Type 0 where
   pub given : ℕ
   -- what c waits for, and since when: by its last ask that named Waiting, with no collect, give up or leave since
   pub wait : ℕ → Wait
-  -- what is due to c of PID p: the newest delivery since c registered or, if later, was last handed one
+  -- what is due to c of PID p: the newest delivery since c registered or, if later, was last handed one for it
   pub pending : ℕ → ℕ → Due
   -- the newest delivery of p, whoever was handed it
   pub newest : ℕ → Due

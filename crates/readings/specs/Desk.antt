@@ -18,10 +18,11 @@ use Rattle.clients.specs.Rules.{idle, idledOf}
 use Rattle.clients.specs.declared.Client.{Client}
 use Rattle.clients.specs.declared.Wait.{Wait}
 use Rattle.config.specs.declared.Profiles.{Profiles}
-use Rattle.delivery.specs.Laws.{arrives, newestOf, newest-any, newest-missing, response-law}
-use Rattle.delivery.specs.Rules.{deliverOf, turnOf, turnsOf, unanswered, responseOf, responseRefusal}
+use Rattle.delivery.specs.Laws.{newest-any, newest-missing, response-law}
+use Rattle.delivery.specs.Rules.{deliverOf, turnOf, turnsOf, unanswered, responseOf, responseRefusal, arrives, newestOf}
 use Rattle.delivery.specs.declared.Answered.{Answered}
-use Rattle.desk.specs.Laws.{Sound, After, leave-law, register-law}
+use Rattle.desk.specs.Laws.{leave-law, register-law}
+use Rattle.desk.specs.Sound.{Sound, After}
 use Rattle.desk.specs.Rules.{registered, clientOf, fresh, waitOf, stored, putClient, entered, leaveOf, registerRefusal, registerOf}
 use Rattle.desk.specs.declared.Desk.{Desk}
 use Rattle.reply.specs.Rules.{noReply}

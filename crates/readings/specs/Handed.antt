@@ -20,7 +20,8 @@ use Rattle.desk.specs.Rules.{registered, clientOf, fresh, waitOf, stored}
 use Rattle.desk.specs.declared.Desk.{Desk}
 use Rattle.reply.specs.Rules.{sizeOf, joinedOf}
 use Rattle.reply.specs.declared.Reply.{Reply}
-use Rattle.waits.specs.Laws.{Found, collect-found, collect-area}
+use Rattle.waits.specs.After.{Found}
+use Rattle.waits.specs.Laws.{collect-found, collect-area}
 use Rattle.waits.specs.Rules.{awaited, awaitedReply, collectedOf, collectRefusal, collectArea}
 use Rattle.obd2.specs.Accepted.{accepted-time, accepted-rows}
 use Rattle.obd2.specs.Call.{Call, register, ask, collect}

@@ -5,7 +5,7 @@ use Prim.Native.Nat.{ℕ, _≤_}
 use native.Mathlib.Omega.{arith}
 use Rattle.base.specs.Choice.{pick, false-true}
 use Rattle.clients.specs.declared.Wait.{Wait}
-use Rattle.desk.specs.Laws.{Sound, After}
+use Rattle.desk.specs.Sound.{Sound, After}
 use Rattle.desk.specs.declared.Desk.{Desk}
 use Rattle.desk.specs.Rules.{registered, fresh, waitOf, stored}
 use Rattle.reply.specs.declared.Reply.{Reply}

@@ -1,13 +1,19 @@
 -- A history in which each part of the claim has something to say, computed from the box's definitions: client 1
 -- registers and asks for PID 0Ch before a reply came, collects it when it has come, and is handed the next one at once.
-use mathlib.Core.Bool.{true}
+-- A caller can make it: `calls-fit` and `built`.
+use mathlib.Core.Bool.{true, false}
 use mathlib.Core.List.{List, [], _∷_, _++_, map}
 use mathlib.Core.Path.{_≡_, refl, ap, _∙_}
-use Prim.Native.Nat.{ℕ, zero, suc}
-use lib.ListN.{getD, replicate}
+use Prim.Native.Nat.{ℕ, zero, suc, _<_}
+use native.Mathlib.Omega.{arith}
+use lib.Dec.{ltb}
+use lib.ListN.{length, getD, replicate, List·getD-eq-default}
+use borrow.Author.Tests.{ltb-true, ltb-false}
 use Rattle.ascii.specs.Chars.{between, upper, hexValue}
 use Rattle.base.specs.Bytes.{Bytes, no-bytes, bytes-tested}
+use Rattle.base.specs.Choice.{cases}
 use Rattle.base.specs.Each.{someOf}
+use Rattle.base.specs.Letters.{letters}
 use Rattle.base.specs.Refusal.{firstOf}
 use Rattle.cache.specs.declared.Answer.the-variants.{Reading, Waiting}
 use Rattle.cache.specs.Rules.{commandStep, stepOf, answerOf, handedOf, filledBy, afterAsk, busy}
@@ -19,12 +25,10 @@ use Rattle.config.specs.InForce.{inForce}
 use Rattle.control.specs.Told.{toldOf}
 use Rattle.control.specs.Outbox.{emptyOf, sendAll, messages}
 use Rattle.control_line.specs.Ring.{emptyLine, freeOf, pushAllOf}
-use Rattle.delivery.specs.Laws.{arrivesIn, newestIn}
-use Rattle.delivery.specs.Rules.{risingFrom, over, unfit, deliverOf, turnOf, turnsOf, responseRefusal, responseOf}
+use Rattle.delivery.specs.Rules.{risingFrom, over, unfit, deliverOf, turnOf, turnsOf, responseRefusal, responseOf, arrivesIn, newestIn}
 use Rattle.desk.specs.Rules.{startDesk, registered, clientOf, fresh, waitOf, stored, putClient, entered}
-use Rattle.link.specs.Rules.{connectOf as linkUp, startLink}
+use Rattle.link.specs.Rules.{noRanges, unknownFeatures, startLink, connectOf as linkUp}
 use Rattle.link.specs.declared.Connecting.the-variants.{Connected}
-use Rattle.link.specs.declared.FeatureSupport.the-variants.{Unknown}
 use Rattle.link.specs.declared.Session.{Session}
 use Rattle.manager.specs.Calls.{dueOf, finishOf, noTable, after, sent, handleOf}
 use Rattle.manager.specs.Calls.{startOf as startManager}
@@ -35,7 +39,7 @@ use Rattle.pid_table.specs.Entry.{registeredOf as entryRegistered}
 use Rattle.poller.specs.Calls.{connectOf as connectPoller}
 use Rattle.poller.specs.State.{startOf as startPoller}
 use Rattle.profile_check.specs.Check.{unknownMode, many, badProfiles}
-use Rattle.reply.specs.Rules.{noReply, sumOf, lengthsOf, totalOf, withinOf, sizeOf, joinedOf, filledOf}
+use Rattle.reply.specs.Rules.{maxLines, maxBytes, maxPids, emptyReply, noReply, absentRange, noRange, sumOf, lengthsOf, totalOf, withinOf, sizeOf, joinedOf, filledOf}
 use Rattle.reply.specs.declared.Reply.{Reply}
 use Rattle.reply.specs.declared.Response.{Response}
 use Rattle.waits.specs.Rules.{collectedOf}
@@ -49,19 +53,21 @@ use Rattle.obd2.specs.declared.Answer.the-variants.{Accepted}
 use Rattle.obd2.specs.declared.Said.the-variants as said
 use Rattle.readings.specs.Claim.{deed, Due, nothing, delivery, Figures, readFrom, read, CacheAsk}
 
+abbrev zeros : ℕ → List ℕ
+zeros n = replicate n 0
+
 -- 41 0C 1A F8 h, in one line: the reply of both responses, so that the two deliveries have equal bytes.
 abbrev pub reading : Reply
-reading = record { lines = 1; lengths = 4 ∷ []; bytes = 65 ∷ 12 ∷ 26 ∷ 248 ∷ [] }
+reading = record { lines = 1; lengths = 4 ∷ zeros 7; bytes = 65 ∷ 12 ∷ 26 ∷ 248 ∷ zeros 60 }
 
 abbrev pub revs : Response
-revs = record { count = 1; pids = 12 ∷ 0 ∷ 0 ∷ 0 ∷ 0 ∷ 0 ∷ []; replies = reading ∷ noReply ∷ noReply ∷ noReply ∷ noReply ∷ noReply ∷ [] }
+revs = record { count = 1; pids = 12 ∷ zeros 5; replies = reading ∷ replicate 5 emptyReply }
 
 abbrev pub session : Session
-session = record { features = record { multi = Unknown }; ranges = []; known = [] }
+session = record { features = unknownFeatures; ranges = noRanges; known = replicate 256 false }
 
--- 010C
 abbrev pub command : List ℕ
-command = 48 ∷ 49 ∷ 48 ∷ 67 ∷ []
+command = letters "010C"
 
 abbrev pub area : List ℕ
 area = 0 ∷ 0 ∷ 0 ∷ 0 ∷ 7 ∷ []
@@ -116,7 +122,7 @@ pub record Computed : Type 0 where
   pub hands : deed secondAsk .hands 1 12 ≡ true
 
 pub computed : Computed
-unfolding step refusalOf rowsOf doneOf managerBy cacheBy linkBy startOf startRefusal unknownMode many badProfiles inForce firstOf started startManager noTable news entryAfter tidings toldOf wishOf speed entryRegistered emptyOf sendAll messages emptyLine freeOf pushAllOf startDesk newcomer startPoller startLink managerRows crowded managed handleOf after sent finishOf dueOf placeOf entered putClient happened lentBy filledBy linkRows someOf overRange connectPoller linkUp cacheRows registered registeredOf stepOf commandStep commandOf stripped sameText rangeTexts indexOf pidOf between upper hexValue busy waitOf clientOf findOf fresh freshIn stored handedOf answerOf afterAsk takenOf waitingOf idledOf unfit risingFrom over withinOf totalOf lengthsOf sumOf sizeOf joinedOf filledOf responseOf responseRefusal turnsOf turnOf deliverOf markedOf collectedOf run readFrom arrivesIn newestIn Rattle.manager.specs.Calls.registerOf
+unfolding step refusalOf rowsOf doneOf managerBy cacheBy linkBy startOf startRefusal unknownMode many badProfiles inForce firstOf started startManager noTable news entryAfter tidings toldOf wishOf speed entryRegistered emptyOf sendAll messages emptyLine freeOf pushAllOf startDesk newcomer startPoller startLink managerRows crowded managed handleOf after sent finishOf dueOf placeOf entered putClient happened lentBy filledBy linkRows someOf noRanges overRange connectPoller linkUp cacheRows registered registeredOf stepOf commandStep commandOf stripped sameText rangeTexts indexOf pidOf between upper hexValue busy waitOf clientOf findOf fresh freshIn stored handedOf answerOf afterAsk takenOf waitingOf idledOf unfit risingFrom over withinOf totalOf lengthsOf sumOf sizeOf joinedOf filledOf responseOf responseRefusal turnsOf turnOf deliverOf markedOf collectedOf run readFrom arrivesIn newestIn Rattle.manager.specs.Calls.registerOf
 computed =
     record {
       answers = refl;
@@ -127,17 +133,75 @@ computed =
       hands = refl;
     }
 
-silent : (n i : ℕ) → Bytes (getD (replicate n noReply) i noReply .bytes)
-silent zero i = no-bytes
-silent (suc n) zero = no-bytes
-silent (suc n) (suc i) = silent n i
+-- What the code's types say of a value: each array has its length, and each number its width.
+pub record BuiltReply (r : Reply) : Type 0 where
+  pub lines : r .lines < 256
+  pub eight : length (r .lengths) ≡ maxLines
+  pub lengths : Bytes (r .lengths)
+  pub sixty-four : length (r .bytes) ≡ maxBytes
+  pub bytes : Bytes (r .bytes)
 
-revs-bytes : (i : ℕ) → Bytes (getD (revs .replies) i noReply .bytes)
-revs-bytes zero = bytes-tested (reading .bytes) refl
-revs-bytes (suc i) = silent 5 i
+pub record BuiltResponse (r : Response) : Type 0 where
+  pub count : r .count < 256
+  pub six : length (r .pids) ≡ maxPids
+  pub pids : Bytes (r .pids)
+  pub replies : length (r .replies) ≡ maxPids
+  pub each : (i : ℕ) → i < maxPids → BuiltReply (getD (r .replies) i noReply)
+
+pub record BuiltSession (s : Session) : Type 0 where
+  pub ranges : length (s .ranges) ≡ 8
+  pub each : (i : ℕ) → i < 8 → BuiltReply (getD (s .ranges) i noRange .reply)
+  pub known : length (s .known) ≡ 256
+
+-- The values that the start and the calls hand in.
+pub record Built : Type 0 where
+  pub profiles : length (noProfiles .list) ≡ 16
+  pub session : BuiltSession session
+  pub response : BuiltResponse revs
+  pub command : Bytes command
+  pub area : Bytes area
+
+empty-built : BuiltReply emptyReply
+empty-built = record { lines = omega arith; eight = refl; lengths = bytes-tested (emptyReply .lengths) refl; sixty-four = refl; bytes = bytes-tested (emptyReply .bytes) refl }
+
+reading-built : BuiltReply reading
+reading-built = record { lines = omega arith; eight = refl; lengths = bytes-tested (reading .lengths) refl; sixty-four = refl; bytes = bytes-tested (reading .bytes) refl }
+
+empties : (n i : ℕ) → i < n → BuiltReply (getD (replicate n emptyReply) i noReply)
+empties zero i h = let z : ⊥ = omega arith in absurd z
+empties (suc n) zero h = empty-built
+empties (suc n) (suc i) h = empties n i (omega arith)
+
+replies-built : (i : ℕ) → i < maxPids → BuiltReply (getD (revs .replies) i noReply)
+replies-built zero h = reading-built
+replies-built (suc i) h = empties 5 i (omega arith)
+
+absents : (n i : ℕ) → i < n → BuiltReply (getD (replicate n absentRange) i noRange .reply)
+absents zero i h = let z : ⊥ = omega arith in absurd z
+absents (suc n) zero h = empty-built
+absents (suc n) (suc i) h = absents n i (omega arith)
+
+session-built : BuiltSession session
+unfolding noRanges
+session-built = record { ranges = refl; each = absents 8; known = refl }
+
+pub built : Built
+built = record {
+  profiles = refl;
+  session = session-built;
+  response = record { count = omega arith; six = refl; pids = bytes-tested (revs .pids) refl; replies = refl; each = replies-built };
+  command = bytes-tested command refl;
+  area = bytes-tested area refl;
+}
+
+-- Past its end a list of replies has one without bytes.
+replies-bytes : (i : ℕ) → Bytes (getD (revs .replies) i noReply .bytes)
+replies-bytes i = cases _ (ltb i maxPids)
+    (λ b. replies-built i (ltb-true i maxPids b) .bytes)
+    (λ b. rw (List·getD-eq-default (revs .replies) noReply {n = i} (ltb-false i maxPids b)) no-bytes)
 
 revs-fit : FitResponse revs
-revs-fit = record { six = refl; small = bytes-tested (revs .pids) refl; replies = refl; bytes = revs-bytes }
+revs-fit = let b = built .response in record { six = b .six; small = b .pids; replies = b .replies; bytes = replies-bytes }
 
 pub calls-fit : Calls calls
 calls-fit = more tt (more tt (more tt (more revs-fit (more tt (more revs-fit (more tt none))))))

@@ -18,7 +18,7 @@ ghost use Prim.Native.Nat.{ℕ};
 ghost use lib.ListN.{length};
 ghost use Rattle.obd2.specs.Call.{begin, next, result};
 ghost use Rattle.obd2.specs.Core.{Lent, withPoller, boxOf, answeredOf};
-ghost use Rattle.obd2.specs.History.{inTime};
+ghost use Rattle.obd2.specs.Answers.{Answers};
 ghost use Rattle.poller.specs.Core.{held, polledRows, knownRows};
 ghost use Rattle.poller.specs.State.{openOf, dueOf};
 
@@ -34,7 +34,7 @@ pub fn begin(
     requires { ⌜ length (now known) ≡ knownRows ⌝ }
     ensures { λ _. ⌜ length (now (polled .exit)) ≡ polledRows ⌝ }
     ensures { λ _. ⌜ length (now (known .exit)) ≡ knownRows ⌝ }
-    ensures { λ r. ⌜ ((x : Lent) (ranges : List (List ℕ)) → answeredOf (withPoller x (held (now (polled .exit)) (now (known .exit)) (now (order .exit)) ranges)) r ≡ inTime (boxOf (withPoller x (held (now (polled .entry)) (now (known .entry)) (now (order .entry)) ranges)) core) (begin time)) ⌝ }
+    ensures { λ r. ⌜ ((x : Lent) (ranges : List (List ℕ)) → Answers (boxOf (withPoller x (held (now (polled .entry)) (now (known .entry)) (now (order .entry)) ranges)) core) (begin time) (answeredOf (withPoller x (held (now (polled .exit)) (now (known .exit)) (now (order .exit)) ranges)) r)) ⌝ }
 {
     let poller = core.poller;
     let round = poller.round;
@@ -66,7 +66,7 @@ pub fn next(
     mut core: Core,
     time: u64,
 ) -> Told
-    ensures { λ r. ⌜ ((x : Lent) (ranges : List (List ℕ)) → let y = withPoller x (held (now (polled .entry)) (now (known .entry)) (now (order .entry)) ranges) in answeredOf y r ≡ inTime (boxOf y core) (next time)) ⌝ }
+    ensures { λ r. ⌜ ((x : Lent) (ranges : List (List ℕ)) → let y = withPoller x (held (now (polled .entry)) (now (known .entry)) (now (order .entry)) ranges) in Answers (boxOf y core) (next time) (answeredOf y r)) ⌝ }
 {
     let poller = core.poller;
     let round = poller.round;
@@ -96,7 +96,7 @@ pub fn result(
     requires { ⌜ length (now known) ≡ knownRows ⌝ }
     ensures { λ _. ⌜ length (now (polled .exit)) ≡ polledRows ⌝ }
     ensures { λ _. ⌜ length (now (known .exit)) ≡ knownRows ⌝ }
-    ensures { λ r. ⌜ ((x : Lent) (order : List ℕ) → answeredOf (withPoller x (held (now (polled .exit)) (now (known .exit)) order (now (ranges .exit)))) r ≡ inTime (boxOf (withPoller x (held (now (polled .entry)) (now (known .entry)) order (now (ranges .entry)))) core) (result time outcome)) ⌝ }
+    ensures { λ r. ⌜ ((x : Lent) (order : List ℕ) → Answers (boxOf (withPoller x (held (now (polled .entry)) (now (known .entry)) order (now (ranges .entry)))) core) (result time outcome) (answeredOf (withPoller x (held (now (polled .exit)) (now (known .exit)) order (now (ranges .exit)))) r)) ⌝ }
 {
     let poller = core.poller;
     let round = poller.round;

@@ -1,27 +1,37 @@
 -- Demand 3, the rounds: what is read off a history, and the claim. The proof is in `Theorem`.
-use mathlib.Core.Bool.{Bool, true, false}
+use mathlib.Core.Bool.{Bool, true, false, _&&_}
 use mathlib.Core.List.{List, [], _∷_, _++_, map}
 use mathlib.Core.Path.{_≡_}
 use Prim.Native.Nat.{ℕ, _+_, _*_, _<_, _≤_, max}
 use lib.ListN.{length, take, drop}
+use Rattle.agreement.specs.Claim.{Reading, managedBy, readCall, readingAt}
 use Rattle.base.specs.Choice.{pick}
 use Rattle.base.specs.Times.{times}
+use Rattle.config.specs.Blank.{noProfiles}
 use Rattle.config.specs.Defaults.{defaultSettings}
 use Rattle.config.specs.declared.Profiles.{Profiles}
 use Rattle.config.specs.declared.Settings.{Settings}
+use Rattle.control.specs.Outbox.{messages}
 use Rattle.control.specs.declared.DongleMessage.{DongleMessage}
+use Rattle.control_line.specs.Ring.{emptyLine, pushAllOf, takeOf}
+use Rattle.control_line.specs.declared.ControlLine.{ControlLine}
 use Rattle.control_line.specs.declared.Taken.the-variants.{Message}
 use Rattle.link.specs.Rules.{isNo}
 use Rattle.link.specs.declared.FeatureSupport.{FeatureSupport}
 use Rattle.link.specs.declared.FeatureSupport.the-variants.{Unknown}
+use Rattle.manager.specs.Calls.{startOf as startManager}
 use Rattle.pid_list.specs.Rules.{entries}
 use Rattle.poll_laws.specs.Lists.{Both}
-use Rattle.poller.specs.Calls.{multiAllowed}
-use Rattle.rounds.specs.Result.{isLost}
+use Rattle.poller.specs.Calls.{multiAllowed, connectOf, failOf, reconnectOf, beginOf}
+use Rattle.rounds.specs.Next.{nextOf}
+use Rattle.rounds.specs.Result.{isLost, resultOf}
+use Rattle.rounds.specs.declared.Step.{Step}
 use Rattle.rounds.specs.declared.Step.the-variants.{Ask, End}
-use Rattle.poller.specs.State.{pidsOf}
+use Rattle.poller.specs.State.{pidsOf, startOf as startPoller}
+use Rattle.poller.specs.declared.Poller.{Poller}
 use Rattle.poller.specs.declared.Query.{Query}
-use Rattle.obd2.specs.Call.{Call, manager, cache, settings, takeControl, link, round, Connect, Fail, Check, Begin, Next, Result}
+use Rattle.obd2.specs.Call.{Call, manager, cache, settings, takeControl, link, round, Connect, Fail, Check, Begin, Next, Result, FitSettings}
+use Rattle.obd2.specs.Done.{listing}
 use Rattle.obd2.specs.History.{startOf, Event, acceptedBy, accepted, run, happened}
 use Rattle.obd2.specs.Refusals.{roundOpen}
 use Rattle.obd2.specs.declared.State.{State}
@@ -73,6 +83,56 @@ pub data Mark : Type 0 where
   ended : Mark
   aside : Mark
 
+abbrev pub stepMark : Step → Query → Mark
+stepMark Ask q = asked (pidsOf q)
+stepMark (End n) q = ended
+
+-- By the rules: what they make of the start and the accepted calls' arguments, the manager as agreement's claim reads it, the
+-- control messages that wait and the poller; and the mark of an accepted call.
+pub record Running : Type 0 where
+  pub reading : Reading
+  pub line : ControlLine
+  pub poller : Poller
+
+abbrev pub polls : Running → Poller → Running
+polls k p = record { reading = k .reading; line = k .line; poller = p }
+
+unfoldable pub runCall : Running → Call → Running
+runCall k (manager t c) = record {
+  reading = readCall (k .reading) (manager t c);
+  line = pushAllOf (k .line) (messages (managedBy (k .reading) t c .outbox));
+  poller = k .poller;
+}
+runCall k (cache t c) = k
+runCall k (settings t st) = record { reading = readCall (k .reading) (settings t st); line = k .line; poller = k .poller }
+runCall k (takeControl t) = record { reading = k .reading; line = takeOf (k .line) .line; poller = listing (k .poller) (takeOf (k .line) .taken) }
+runCall k (link t (Connect session)) = polls k (connectOf (k .poller) session .poller)
+runCall k (link t Fail) = polls k (failOf (k .poller) .poller)
+runCall k (link t Check) = polls k (reconnectOf (k .poller) t .poller)
+runCall k (round t Begin) = polls k (beginOf (k .poller) (k .reading .settings))
+runCall k (round t Next) = polls k (nextOf (k .poller) t .poller)
+runCall k (round t (Result o)) = polls k (resultOf (k .poller) t o)
+
+unfoldable pub markBy : Running → Call → Mark
+markBy k (manager t c) = aside
+markBy k (cache t c) = aside
+markBy k (settings t st) = aside
+markBy k (takeControl t) = aside
+markBy k (link t c) = aside
+markBy k (round t Begin) = begun
+markBy k (round t Next) = stepMark (nextOf (k .poller) t .step) (nextOf (k .poller) t .poller .round .due)
+markBy k (round t (Result o)) = aside
+
+-- Over a history: a refused call leaves no mark.
+unfoldable pub running : Running → List Event → Running
+running k [] = k
+running k (e ∷ h) = running (pick (accepted e) (runCall k (e .call)) k) h
+
+unfoldable pub marks : Running → List Event → List Mark
+marks k [] = []
+marks k (e ∷ h) = pick (accepted e) (markBy k (e .call)) aside ∷ marks (pick (accepted e) (runCall k (e .call)) k) h
+
+-- By the answers: the same marks. `marks-told` in `Runs`.
 abbrev pub nextMark : Said → Query → Mark
 nextMark said.Started q = aside
 nextMark (said.Client n) q = aside
@@ -83,8 +143,7 @@ nextMark said.GivenUp q = aside
 nextMark (said.Taken x) q = aside
 nextMark (said.Connecting x) q = aside
 nextMark (said.Check b) q = aside
-nextMark (said.Step Ask) q = asked (pidsOf q)
-nextMark (said.Step (End n)) q = ended
+nextMark (said.Step x) q = stepMark x q
 
 -- An accepted call.
 abbrev pub markDone : Call → Said → Query → Mark
@@ -104,16 +163,16 @@ markOf c (Accepted a) q = markDone c a q
 abbrev pub mark : Event → Mark
 mark e = markOf (e .call) (e .answer) (e .details .query)
 
--- Whether a round is open after it, and over a history. `open-run` in `Reading`: so it is of the box.
+-- Whether a round is open after a mark, and after several. `open-run` in `Reading`: so it is of the box.
 abbrev pub openBy : Mark → Bool → Bool
 openBy begun b = true
 openBy (asked ps) b = b
 openBy ended b = false
 openBy aside b = b
 
-unfoldable pub openOver : Bool → List Event → Bool
+unfoldable pub openOver : Bool → List Mark → Bool
 openOver b [] = b
-openOver b (e ∷ h) = openOver (openBy (mark e) b) h
+openOver b (m ∷ ms) = openOver (openBy m b) ms
 
 -- The PIDs asked so far in the round that is open, and the round that ends.
 abbrev pub askedBy : Mark → List ℕ → List ℕ
@@ -132,9 +191,9 @@ unfoldable pub roundsIn : List ℕ → List Mark → List (List ℕ)
 roundsIn xs [] = []
 roundsIn xs (m ∷ ms) = endedBy m xs ++ roundsIn (askedBy m xs) ms
 
--- The PIDs asked in each completed round of a history that starts with no round open, in order.
-abbrev pub rounds : List Event → List (List ℕ)
-rounds h = roundsIn [] (map mark h)
+-- The PIDs asked in each completed round, in order, where no round is open before the marks.
+abbrev pub rounds : List Mark → List (List ℕ)
+rounds ms = roundsIn [] ms
 
 -- The PIDs asked in some rounds.
 unfoldable pub joined : List (List ℕ) → List ℕ
@@ -143,10 +202,23 @@ joined (xs ∷ rs) = xs ++ joined rs
 
 -- ---- "while"
 
--- "the connection stays up, every round is a single one .. and no further control message is taken nor setting changed"
+abbrev pub isBegin : Call → Bool
+isBegin (manager t c) = false
+isBegin (cache t c) = false
+isBegin (settings t st) = false
+isBegin (takeControl t) = false
+isBegin (link t c) = false
+isBegin (round t Begin) = true
+isBegin (round t Next) = false
+isBegin (round t (Result o)) = false
+
+abbrev pub begins : Event → Bool
+begins e = accepted e && isBegin (e .call)
+
+-- What it asks of one event. "run to its end" is in `rounds`, which has only the rounds that ended.
 pub record Quiet (k : Seen) (e : Event) : Type 0 where
   pub stays-up : seen k e .up ≡ true
-  pub single : mark e ≡ begun → multiAllowed (k .settings .multi) (isNo (k .multi)) ≡ false
+  pub single : begins e ≡ true → multiAllowed (k .settings .multi) (isNo (k .multi)) ≡ false
   pub none-taken : (m : DongleMessage) → e .answer ≡ Accepted (said.Taken (Message m)) → ⊥
   pub unchanged : seen k e .settings ≡ k .settings
 
@@ -156,10 +228,13 @@ pub data Steady : Seen → List Event → Type 0 where
 
 -- ---- the claim
 
--- Of the fast and slow PIDs, the settings and the rounds: "any stretch of as many rounds as the poller's fast list has entries asks
--- each of them; in Ratio mode with that list not empty, any stretch of slow length × ratio (at least 1) rounds asks each PID of the
--- poller's slow list." And by document 02, A2, with the fast list empty: "each slow PID being asked within as many rounds as the slow
--- list has entries".
+-- "From there, whatever other calls come, while the connection stays up, every round is a single one run to its end and no further
+-- control message is taken nor setting changed, any stretch of as many rounds as the poller's fast list has entries asks each of
+-- them; in Ratio mode with that list not empty, any stretch of slow length × ratio (at least 1) rounds asks each PID of the poller's
+-- slow list." `Lasting` says the "while", `Asked` what the rounds then ask.
+
+-- Of the fast and slow PIDs, the settings and the rounds. By document 02, A2, with the fast list empty: "each slow PID being asked
+-- within as many rounds as the slow list has entries".
 pub record Asked (fast slow : List ℕ) (st : Settings) (rs : List (List ℕ)) : Type 0 where
   pub fast-asked : (k q : ℕ) → k + length fast ≤ length rs → 0 < times q fast → 0 < times q (joined (take (length fast) (drop k rs)))
   pub slow-asked : (st .mode ≡ 0 → ⊥) → 0 < length fast
@@ -167,18 +242,16 @@ pub record Asked (fast slow : List ℕ) (st : Settings) (rs : List (List ℕ)) :
   pub only-slow-asked : (st .mode ≡ 0 → ⊥) → length fast ≡ 0
       → (k q : ℕ) → k + length slow ≤ length rs → 0 < times q slow → 0 < times q (joined (take (length slow) (drop k rs)))
 
--- "while the connection stays up, every round is a single one run to its end and no further control message is taken nor setting
--- changed": what is so before it, with no round open, and the history. A ratio has 32 bits.
-pub record Lasting (opened : Bool) (k : Seen) (h : List Event) : Type 0 where
-  pub closed : opened ≡ false
+-- What is so before it, and the history.
+pub record Lasting (k : Seen) (h : List Event) : Type 0 where
   pub up : k .up ≡ true
-  pub fits : k .settings .ratio ≤ 4294967295
   pub steady : Steady k h
 
--- Of a box with sound lists, and what is so of its round, its connection and its settings.
+-- Of a box with sound lists and settings that a caller can hand in, and what is so of its round, its connection and its settings.
 abbrev pub ClaimOf : State → Bool → Seen → Type 0
-ClaimOf s opened k = Both (s .poller .fast) (s .poller .slow) → (cs : List Call) → Lasting opened k (happened s cs)
-    → Asked (entries (s .poller .fast)) (entries (s .poller .slow)) (k .settings) (rounds (happened s cs))
+ClaimOf s opened k = Both (s .poller .fast) (s .poller .slow) → FitSettings (k .settings) → opened ≡ false
+    → (cs : List Call) → Lasting k (happened s cs)
+    → Asked (entries (s .poller .fast)) (entries (s .poller .slow)) (k .settings) (rounds (map mark (happened s cs)))
 
 abbrev pub Claim : Type 0
 Claim = (s : State) → ClaimOf s (roundOpen s) (seenAt s)
@@ -196,8 +269,27 @@ module _ (t : ℕ) (st : Settings) (ps : Profiles) (before : List Call) where
   abbrev pub read : Seen
   read = seenOver (record { up = false; multi = Unknown; settings = pick (acceptedBy (startOf t st ps .answer)) st defaultSettings }) sofar
 
-  abbrev pub LastingSince : List Call → Type 0
-  LastingSince cs = Lasting (openOver false sofar) read (happened there cs)
-
   abbrev pub ClaimSince : Type 0
-  ClaimSince = ClaimOf there (openOver false sofar) read
+  ClaimSince = ClaimOf there (openOver false (map mark sofar)) read
+
+-- The rules' reading since a start, refused or not.
+abbrev pub runningAt : ℕ → Settings → Profiles → Running
+runningAt t st ps = record {
+  reading = readingAt t st ps;
+  line = pushAllOf emptyLine (messages (startManager (record { profiles = ps; settings = st; now = t }) .outbox));
+  poller = startPoller t;
+}
+
+module _ (t : ℕ) (st : Settings) (ps : Profiles) where
+  abbrev pub runStart : Running
+  runStart = pick (acceptedBy (startOf t st ps .answer)) (runningAt t st ps) (runningAt 0 defaultSettings noProfiles)
+
+  abbrev pub runAfter : List Call → Running
+  runAfter before = running runStart (sofar t st ps before)
+
+  abbrev pub marksAfter : List Call → List Mark
+  marksAfter before = marks runStart (sofar t st ps before)
+
+  -- The rounds of the calls that come behind the list `before`.
+  abbrev pub roundsAfter : List Call → List Call → List (List ℕ)
+  roundsAfter before later = rounds (marks (runAfter before) (happened (there t st ps before) later))

@@ -2,6 +2,6 @@ pub mod Claim
 pub mod Machine
 pub mod Covers
 pub mod Reading
+pub mod Runs
 pub mod Steps
 pub mod Theorem
-pub mod Witness

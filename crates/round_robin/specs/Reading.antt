@@ -1,6 +1,6 @@
 -- What is read of the connection, the multi-PID state, the settings and the open round is what is so of the box.
 use mathlib.Core.Bool.{Bool, true, false}
-use mathlib.Core.List.{List, [], _∷_}
+use mathlib.Core.List.{List, [], _∷_, map}
 use mathlib.Core.Path.{_≡_, refl, ap, sym, _∙_}
 use Prim.Native.Nat.{ℕ}
 use lib.Dec.{eqb}
@@ -93,10 +93,10 @@ unfolding happened run seenOver
 seen-run [] s = refl
 seen-run (c ∷ cs) s = ap (λ (k : Seen). seenOver k (happened (step s c .state) cs)) (seen-is s c) ∙ seen-run cs (step s c .state)
 
-pub open-run : (cs : List Call) (s : State) → openOver (roundOpen s) (happened s cs) ≡ roundOpen (run s cs)
+pub open-run : (cs : List Call) (s : State) → openOver (roundOpen s) (map mark (happened s cs)) ≡ roundOpen (run s cs)
 unfolding happened run openOver
 open-run [] s = refl
-open-run (c ∷ cs) s = ap (λ (b : Bool). openOver b (happened (step s c .state) cs)) (open-is s c) ∙ open-run cs (step s c .state)
+open-run (c ∷ cs) s = ap (λ (b : Bool). openOver b (map mark (happened (step s c .state) cs))) (open-is s c) ∙ open-run cs (step s c .state)
 
 -- What is so of the box that a start returns.
 module _ (t : ℕ) (st : Settings) (ps : Profiles) where

@@ -39,7 +39,7 @@ use Rattle.obd2.specs.State.{managed}
 use Rattle.obd2.specs.declared.State.{State}
 use Rattle.obd2.specs.declared.Answer.the-variants.{Accepted}
 use Rattle.obd2.specs.declared.Said.the-variants as said
-use Rattle.round_robin.specs.Claim.{Mark, begun, aside, nextMark, markDone, mark, roundsIn, Seen, seenAt, Quiet, Steady, more}
+use Rattle.round_robin.specs.Claim.{Mark, aside, nextMark, markDone, mark, roundsIn, isBegin, Seen, seenAt, Quiet, Steady, more}
 use Rattle.round_robin.specs.Machine.{Stage, idle, first, test, over, wanted, Finds, passed, unsent, failed, Tests, After, tested, silent, Ahead, stop, rest}
 use Rattle.round_robin.specs.Reading.{shut, seen-is}
 
@@ -155,7 +155,7 @@ module _ (s : State) (st : Settings) (nofast : Bool) (same : s .settings ≡ st)
   Single = multiAllowed (s .settings .multi) (isNo (s .poller .link .features .multi)) ≡ false
 
   done-runs : (c : Call) → refusalOf s c ≡ 0 → let a = doneOf s c in
-      (markDone c (a .said) (a .details .query) ≡ begun → Single)
+      (isBegin c ≡ true → Single)
       → ((m : DongleMessage) → Accepted (a .said) ≡ Accepted (said.Taken (Message m)) → ⊥) → Goes (a .state .poller) (markDone c (a .said) (a .details .query))
   unfolding doneOf linkBy roundBy managed connectOf failOf reconnectOf resultOf roundAfter nextOf roundsIn
   done-runs (manager t c) e o n k = leaves _ refl k

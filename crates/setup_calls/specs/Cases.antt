@@ -29,7 +29,6 @@ use Rattle.poller.specs.State.{startOf as startPoller}
 use Rattle.poller.specs.declared.core.Core.{Core as PollerCore}
 use Rattle.report.specs.Summary.{none-in}
 use Rattle.profile_check.specs.Check.{badProfiles, unknownMode}
-use Rattle.obd2.specs.Answers.{numberIn}
 use Rattle.obd2.specs.Core.{Lent, boxOf, answeredOf, noNotes}
 use Rattle.obd2.specs.History.{settled, startOf}
 use Rattle.obd2.specs.Refusals.{badTime, startRefusal}
@@ -40,16 +39,12 @@ use Rattle.obd2.specs.declared.Said.the-variants.{Started}
 use Rattle.obd2.specs.declared.core.Core.{Core}
 use Rattle.obd2.specs.declared.core.Notes.{Notes}
 
-start-number : (t : ℕ) (st : Settings) (ps : Profiles) → numberIn (startOf t st ps .answer) ≡ startRefusal t st ps
-unfolding startOf
-start-number t st ps = cases _ (eqb (startRefusal t st ps) 0) (λ e. rw e (sym (eqb-true _ 0 e))) (λ e. rw e)
-
 -- No time is before 0.
 pub start-is : (t : ℕ) (st : Settings) (ps : Profiles) {r : Answered}
     → r ≡ settled (firstOf ((1, badTime 0 t) ∷ (2, unknownMode (st .mode) || badProfiles ps) ∷ [])) (started 0 defaultSettings noProfiles) (answered (started t st ps) (Accepted Started) noDetails)
-    → (r ≡ startOf t st ps) × (numberIn (r .answer) ≡ startRefusal t st ps)
+    → r ≡ startOf t st ps
 unfolding startOf startRefusal
-start-is t st ps e = let f : _ ≡ startOf t st ps = rw (le-ltb t 0 (omega arith)) at e in (f, rw f (start-number t st ps))
+start-is t st ps e = rw (le-ltb t 0 (omega arith)) at e
 
 -- Its refusal 2: an unknown mode, and bad profiles.
 pub either-first : (x y : Bool) → x ≡ true → (x || y) ≡ true

@@ -24,11 +24,10 @@ ghost use lib.ListN.{length};
 ghost use Rattle.clients.specs.Rules.{places};
 ghost use Rattle.config.specs.Blank.{noProfiles};
 ghost use Rattle.config.specs.Defaults.{defaultSettings};
-ghost use Rattle.obd2.specs.Answers.{numberIn};
+ghost use Rattle.obd2.specs.Answers.{Answers, PromisedStart};
 ghost use Rattle.obd2.specs.Call as call;
 ghost use Rattle.obd2.specs.Core.{Lent, lent, boxOf, answeredOf};
-ghost use Rattle.obd2.specs.History.{refused, inTime, startOf};
-ghost use Rattle.obd2.specs.Refusals.{startRefusal};
+ghost use Rattle.obd2.specs.History.{refused, startOf};
 ghost use Rattle.obd2.specs.State.{started};
 ghost use Rattle.poller.specs.Core.{held, polledRows, knownRows};
 
@@ -130,7 +129,7 @@ pub fn start(
     ensures { λ _. ⌜ length (now (polled .exit)) ≡ polledRows ⌝ }
     ensures { λ _. ⌜ length (now (known .exit)) ≡ knownRows ⌝ }
     ensures { λ r. ⌜ ((pids : List ℕ) (rates : List Float) → answeredOf (lent (now (replies .exit)) (now (marks .exit)) (now (table .exit)) (now (slots .exit)) (held (now (polled .exit)) (now (known .exit)) (now (order .exit)) (now (ranges .exit))) pids rates) r ≡ startOf time settings profiles) ⌝ }
-    ensures { λ r. ⌜ numberIn (r .answer) ≡ startRefusal time settings profiles ⌝ }
+    ensures { λ r. ⌜ ((pids : List ℕ) (rates : List Float) → PromisedStart time settings profiles (answeredOf (lent (now (replies .exit)) (now (marks .exit)) (now (table .exit)) (now (slots .exit)) (held (now (polled .exit)) (now (known .exit)) (now (order .exit)) (now (ranges .exit))) pids rates) r)) ⌝ }
 {
     if answers::bad_time(0, time) {
         return refuse_start(
@@ -194,7 +193,7 @@ pub fn start(
 
 // The settings in force from now on. An open round keeps those that its begin found.
 pub fn set_settings(mut core: Core, time: u64, settings: Settings) -> Told
-    ensures { λ r. ⌜ ((x : Lent) → answeredOf x r ≡ inTime (boxOf x core) (call.settings time settings)) ⌝ }
+    ensures { λ r. ⌜ ((x : Lent) → Answers (boxOf x core) (call.settings time settings) (answeredOf x r)) ⌝ }
 {
     if profile_check::unknown_mode(settings.mode) {
         return telling::refuse(core, 2);

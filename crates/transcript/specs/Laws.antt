@@ -8,12 +8,13 @@ use lib.Dec.{eqb}
 use lib.ListN.{length, take, getD, length-append}
 use lib.Seq.{take-suc, length-take-le}
 use Rattle.base.specs.Choice.{cases}
+use Rattle.base.specs.Letters.{letter}
 use Rattle.base.specs.Write.{over, over-none, over-length, over-over}
 use Rattle.command.specs.Classify.{commandOf}
 use Rattle.command.specs.declared.Command.{Command}
 use Rattle.command.specs.declared.Command.the-variants.{Range, Pid, Unknown}
 use Rattle.transcript.specs.declared.Line.{Line}
-use Rattle.transcript.specs.Lines.{className, numberText, tailText, keptOf, stepText, stepLine, partText, partLine, usable}
+use Rattle.transcript.specs.Lines.{className, numberText, tailText, keptOf, stepText, stepLine, partText, partLine, usable, Filled}
 
 pub tail-length : (c : Command) → length (tailText c) ≤ 9
 unfolding tailText className numberText
@@ -24,7 +25,7 @@ tail-length Unknown = omega arith
 pub step-length : (l : Line) (b : ℕ) → length (stepText l b) ≤ 9
 unfolding stepText
 step-length l b =
-    cases _ (eqb b 10)
+    cases _ (eqb b (letter "\n"))
     (λ e. rw e (tail-length (commandOf (keptOf l))))
     (λ e. rw e (omega arith))
 
@@ -53,12 +54,6 @@ module _ (l : Line) (xs : List ℕ) (i : ℕ) (h : i < length xs) where
   pub line-next : partLine l (take (i + 1) xs) ≡ stepLine (partLine l (take i xs)) (getD xs i 0)
   unfolding partLine
   line-next = rw (add-one, take-suc xs i 0 h, line-append)
-
--- The first i bytes of an input are fed: the line then, how much is written, and the memory with it.
-pub record Filled (l : Line) (input d : List ℕ) (i : ℕ) (now : Line) (at : ℕ) (out : List ℕ) : Type 0 where
-  pub line-is : now ≡ partLine l (take i input)
-  pub at-is : at ≡ length (partText l (take i input))
-  pub out-is : out ≡ over d 0 (partText l (take i input))
 
 module _ (l : Line) (input d : List ℕ) where
   pub filled-none : Filled l input d 0 l 0 d

@@ -10,16 +10,12 @@ use lib.ListN.{length, take, length-append, length-take, length-set}
 use lib.Seq.{take-all, take-suc-set, take-append-le, take-take, length-take-le}
 use borrow.Author.Tests.{ltb-true, ltb-false, leb-true, leb-false, eqb-true, eqb-false, eq-eqb, ne-eqb}
 use Rattle.base.specs.Choice.{cases}
+use Rattle.base.specs.Letters.{letter}
 use Rattle.base.specs.Times.{times}
 use Rattle.command.specs.Classify.{commandOf}
 use Rattle.command.specs.Laws.{class-of-six}
 use Rattle.transcript.specs.declared.Line.{Line}
-use Rattle.transcript.specs.Lines.{tailText, lastText, output, keptOf, keepOf, startLine, stepText, stepLine, partText, partLine}
-
--- A line as the code holds it: six places, of which at most six are kept.
-pub record Sound (l : Line) : Type 0 where
-  pub whole : length (l .head) ≡ 6
-  pub within : l .kept ≤ 6
+use Rattle.transcript.specs.Lines.{tailText, lastText, output, keptOf, keepOf, startLine, stepText, stepLine, partText, partLine, Sound, written, joined}
 
 pub start-sound : Sound startLine
 unfolding startLine
@@ -38,7 +34,7 @@ keep-sound l b s =
 
 pub step-sound : (l : Line) (b : ℕ) → Sound l → Sound (stepLine l b)
 unfolding stepLine
-step-sound l b s = cases _ (eqb b 10) (λ e. rw e start-sound) (λ e. rw e (keep-sound l b s))
+step-sound l b s = cases _ (eqb b (letter "\n")) (λ e. rw e start-sound) (λ e. rw e (keep-sound l b s))
 
 -- Six bytes of a line and one more are, up to six, those of the line and one more.
 six-more : (line t : List ℕ) → take 6 (line ++ t) ≡ take 6 (take 6 line ++ t)
@@ -84,22 +80,13 @@ module _ (ys : List ℕ) where
   unfolding output partText partLine stepText stepLine
   part-output [] l s = refl
   part-output (b ∷ bs) l s =
-      cases _ (eqb b 10)
+      cases _ (eqb b (letter "\n"))
       (λ e. rw e (ap (λ (x : List ℕ). tailText (commandOf (keptOf l)) ++ x) (ap (λ (x : List ℕ). output x (bs ++ ys)) (sym kept-start) ∙ part-output bs startLine start-sound)
       ∙ sym (append-assoc (tailText (commandOf (keptOf l))) _ _)))
       (λ e. rw e (ap (λ (x : List ℕ). b ∷ x)
       (output-six (bs ++ ys) (keptOf l ++ (b ∷ []))
       ∙ ap (λ (x : List ℕ). output x (bs ++ ys)) (sym (kept-more l b s))
       ∙ part-output bs (keepOf l b) (keep-sound l b s))))
-
--- What is written over the parts of an input, and at its end.
-unfoldable pub written : Line → List (List ℕ) → List ℕ
-written l [] = lastText (keptOf l)
-written l (p ∷ ps) = partText l p ++ written (partLine l p) ps
-
-unfoldable pub joined : List (List ℕ) → List ℕ
-joined [] = []
-joined (p ∷ ps) = p ++ joined ps
 
 part-sound : (xs : List ℕ) (l : Line) → Sound l → Sound (partLine l xs)
 unfolding partLine
@@ -116,18 +103,18 @@ parts-from (p ∷ ps) l s =
 pub parts-output : (ps : List (List ℕ)) → written startLine ps ≡ output [] (joined ps)
 parts-output ps = parts-from ps startLine start-sound ∙ ap (λ (x : List ℕ). output x (joined ps)) kept-start
 
-line-from : (line pre rest : List ℕ) → times 10 line ≡ 0
-    → output pre (line ++ (10 ∷ rest)) ≡ line ++ (tailText (commandOf (pre ++ line)) ++ output [] rest)
+line-from : (line pre rest : List ℕ) → times (letter "\n") line ≡ 0
+    → output pre (line ++ (letter "\n" ∷ rest)) ≡ line ++ (tailText (commandOf (pre ++ line)) ++ output [] rest)
 unfolding output times
 line-from [] pre rest h = rw append-nil
 line-from (b ∷ bs) pre rest h =
-    cases _ (eqb b 10)
+    cases _ (eqb b (letter "\n"))
     (λ e. absurd (let z = rw e at h in omega arith))
     (λ e. let z = rw e at h in
     let a : (pre ++ (b ∷ [])) ++ bs ≡ pre ++ (b ∷ bs) = append-assoc pre (b ∷ []) bs in
     rw e (ap (λ (x : List ℕ). b ∷ x) (rw a at (line-from bs (pre ++ (b ∷ [])) rest (omega arith)))))
 
 -- EACH LINE, of whatever length and bytes, stands in the output as it is, with its class and its number behind it.
-pub line-output : (line rest : List ℕ) → times 10 line ≡ 0
-    → output [] (line ++ (10 ∷ rest)) ≡ line ++ (tailText (commandOf line) ++ output [] rest)
+pub line-output : (line rest : List ℕ) → times (letter "\n") line ≡ 0
+    → output [] (line ++ (letter "\n" ∷ rest)) ≡ line ++ (tailText (commandOf line) ++ output [] rest)
 line-output line rest h = line-from line [] rest h

@@ -2,7 +2,7 @@
 use mathlib.Core.Bool.{Bool, true, false, _&&_, not, and-true}
 use mathlib.Core.List.{List, [], _∷_, _++_}
 use mathlib.Core.Path.{_≡_, refl, ap, sym, _∙_}
-use Prim.Native.Nat.{ℕ, _-_, _≤_}
+use Prim.Native.Nat.{ℕ}
 use native.Mathlib.Omega.{arith}
 use lib.Dec.{ltb, eqb}
 use lib.ListN.{length, drop}
@@ -13,23 +13,15 @@ use Rattle.clients.specs.Rules.{idle, freshIn, takenOf, idledOf}
 use Rattle.clients.specs.Laws.{taken-number, taken-long, taken-fresh, idled-number, idled-wait, idled-fresh}
 use Rattle.clients.specs.declared.Wait.{Wait}
 use Rattle.clients.specs.declared.Client.{Client}
-use Rattle.desk.specs.Rules.{registered, clientOf, fresh, waitOf, stored, putClient}
-use Rattle.desk.specs.Laws.{Sound, After, client-number, put-after}
+use Rattle.desk.specs.Rules.{registered, clientOf, fresh, waitOf, putClient}
+use Rattle.desk.specs.Laws.{client-number, put-after}
+use Rattle.desk.specs.Sound.{Sound}
 use Rattle.desk.specs.declared.Desk.{Desk}
 use Rattle.reply.specs.Laws.{filled-long}
 use Rattle.reply.specs.Rules.{sizeOf, joinedOf}
 use Rattle.waits.specs.Rules.{awaited, awaitedReply, collectRefusal, collectedOf, collectOf, collectArea, giveUpRefusal, giveUpOf}
+use Rattle.waits.specs.After.{collects, AfterWait, Found, Collects}
 use Rattle.waits.specs.Cases.{collect-refused, collect-done}
-use Rattle.waits.specs.declared.Collected.{Collected}
-
--- Whether a collect hands out a reading of the PID: it is accepted, and names Consumed of that PID.
-abbrev pub collects : Collected → ℕ → Bool
-collects a p = eqb (a .refusal) 0 && eqb (a .pid) p
-
--- The desk e after a call of client c: its wait is over if the call was accepted; what it is handed is fresh no longer.
-abbrev pub AfterWait : Desk → ℕ → Bool → (ℕ → Bool) → Desk → Type 0
-AfterWait d c accepted hands e =
-    After e (registered d) (λ k p. fresh d k p && not (eqb k c && hands p)) (λ k. pick (eqb k c && accepted) idle (waitOf d k)) (stored d)
 
 kept-fresh : (f g : Bool) → f ≡ (f && not (g && false))
 kept-fresh true true = refl
@@ -79,13 +71,6 @@ module _ (d : Desk) (s : Sound d) (c : ℕ) where
           sound = a .sound;
         }
 
--- What an accepted collect found: a registered client that waits, and a reply that came and fits the lent area.
-pub record Found (d : Desk) (c n : ℕ) : Type 0 where
-  pub known : registered d c ≡ true
-  pub waiting : waitOf d c .waiting ≡ true
-  pub was-fresh : fresh d c (awaited d c) ≡ true
-  pub fits : sizeOf (awaitedReply d c) ≤ n
-
 module _ (d : Desk) (c n : ℕ) where
   pub collect-found : collectRefusal d c n ≡ 0 → Found d c n
   unfolding collectRefusal
@@ -132,13 +117,6 @@ module _ (d : Desk) (t c n : ℕ) where
   pub collect-unchanged : (collectRefusal d c n ≡ 0 → ⊥) → collectOf d t c n .desk ≡ d
   unfolding collectOf
   collect-unchanged h = rw (ne-eqb (collectRefusal d c n) 0 h)
-
--- A reading that a collect hands out: of the PID that the client waits for, the newest reply, with the wait since the ask.
-pub record Collects (d : Desk) (t c : ℕ) (a : Collected) : Type 0 where
-  pub pid-of : a .pid ≡ awaited d c
-  pub wait-of : a .wait ≡ t - waitOf d c .since
-  pub lines-of : a .lines ≡ awaitedReply d c .lines
-  pub lengths-of : a .lengths ≡ awaitedReply d c .lengths
 
 pub collect-hands : (d : Desk) (t c n : ℕ) → collectRefusal d c n ≡ 0 → Collects d t c (collectOf d t c n)
 unfolding collectOf collectedOf

@@ -1,4 +1,4 @@
--- Lists as text: history-format.md, "parted by commas", "`-` stands for none". 44 is `,`, 45 is `-`.
+-- Lists as text: history-format.md, "parted by commas", "`-` stands for none".
 use mathlib.Core.Bool.{Bool, true, false}
 use mathlib.Core.List.{List, [], _∷_, _++_, map}
 use mathlib.Core.Path.{_≡_}
@@ -7,17 +7,18 @@ use native.Mathlib.Omega.{arith}
 use native.Mathlib.Numerals.{add-one}
 use lib.ListN.{length, getD, drop, drop-of-length-le, length-map, List·getD-map}
 use lib.Seq.{drop-cons}
+use Rattle.base.specs.Letters.{letters}
 use Rattle.numeral.specs.Decimal.{decimalText}
 use Rattle.writing_pairs.specs.Pairs.{pidText}
 
 -- What stands before a text of a list that has some already; what stands for a list that turns out to have none.
 unfoldable pub commaText : Bool → List ℕ
-commaText true = 44 ∷ []
+commaText true = letters ","
 commaText false = []
 
 unfoldable pub noneText : Bool → List ℕ
 noneText true = []
-noneText false = 45 ∷ []
+noneText false = letters "-"
 
 -- Texts parted by commas, behind others or not; `-` for none at all.
 unfoldable pub parted : Bool → List (List ℕ) → List ℕ

@@ -1,4 +1,4 @@
--- Bytes and words as hex digits: history-format.md, "`-` stands for none". 45 is `-`.
+-- Bytes and words as hex digits: history-format.md, "`-` stands for none".
 use mathlib.Core.List.{List, [], _∷_, _++_}
 use mathlib.Core.Path.{_≡_}
 use Prim.Native.Nat.{ℕ, _+_, _/_, _%_, _<_, _≤_}
@@ -8,6 +8,7 @@ use lib.ListN.{length, getD, drop, drop-of-length-le}
 use lib.Seq.{drop-cons}
 use borrow.Author.Tests.{eq-eqb, ne-eqb}
 use Rattle.base.specs.Choice.{pick}
+use Rattle.base.specs.Letters.{letters}
 use Rattle.hex.specs.Pairs.{hexText}
 
 -- A PID as text; the pairs of bytes; 32 bits.
@@ -15,7 +16,7 @@ abbrev pub pidText : ℕ → List ℕ
 pidText p = hexText (p ∷ [])
 
 unfoldable pub bytesText : List ℕ → List ℕ
-bytesText s = pick (eqb (length s) 0) (45 ∷ []) (hexText s)
+bytesText s = pick (eqb (length s) 0) (letters "-") (hexText s)
 
 unfoldable pub wordText : ℕ → List ℕ
 wordText w = hexText (w / 16777216 % 256 ∷ w / 65536 % 256 ∷ w / 256 % 256 ∷ w % 256 ∷ [])
@@ -29,7 +30,7 @@ pub pairs-end : (s : List ℕ) (i : ℕ) → length s ≤ i → hexText (drop i 
 unfolding hexText
 pairs-end s i h = rw (drop-of-length-le s h)
 
-pub bytes-none : (s : List ℕ) → length s ≡ 0 → bytesText s ≡ 45 ∷ []
+pub bytes-none : (s : List ℕ) → length s ≡ 0 → bytesText s ≡ letters "-"
 unfolding bytesText
 bytes-none s h = rw (eq-eqb (length s) 0 h)
 

@@ -1,6 +1,4 @@
-use mathlib.Core.Path.{ap, _∙_}
-use Rattle.obd2.specs.Answers.{numberIn}
-use Rattle.obd2.specs.declared.Answered.{Answered}
+use mathlib.Core.Path.{_∙_}
 use borrow.Author.Needs.{needs}
 use Rattle.by_value.proofs.start.Statement.{statement}
 use Rattle.by_value.proofs.start.Tie as tie
@@ -27,7 +25,7 @@ returns : tie.Need-returns
 returns c =
     let e = c .answered-of .ensures in
     let f = c .before .start .ensures .1 .1 .1 .1 in
-    (e ∙ f .0 _ _, ap (λ (r : Answered). numberIn (r .answer)) e ∙ f .1)
+    (e ∙ f .0 _ _, rw e (f .1 _ _))
 
 pub start-spec : {M : Type 1} → statement M
 start-spec = tie.close (tie.spec blank-requires start-requires answered-of-requires returns)

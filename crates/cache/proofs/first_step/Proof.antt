@@ -35,7 +35,7 @@ returns-2 c =
     let k = r .before .before in
     let l = k .before .before in
     let a = l .before .before .before .args in
-    let e = sym (l .classify .ensures) ∙ k .asked .given .1 in
+    let e = sym (l .classify .ensures .0) ∙ k .asked .given .1 in
     rw (not-false (a .connected) (l .before .if1 .left)) (c .range-step .ensures ∙ ap (rangeStep (k .asked .given .0 .0)) (r .range .ensures) ∙ sym (step-range (a .ranges) (a .cmd .now) (k .asked .given .0 .0) e))
 
 returns-3 : tie.Need-returns-3
@@ -43,13 +43,13 @@ returns-3 c =
     let k = c .before in
     let l = k .before .before in
     let a = l .before .before .before .args in
-    rw (not-false (a .connected) (l .before .if1 .left)) (sym (step-pid (a .ranges) (a .cmd .now) (k .asked2 .given .0 .0) (sym (l .classify .ensures) ∙ k .asked2 .given .1)))
+    rw (not-false (a .connected) (l .before .if1 .left)) (sym (step-pid (a .ranges) (a .cmd .now) (k .asked2 .given .0 .0) (sym (l .classify .ensures .0) ∙ k .asked2 .given .1)))
 
 returns-4 : tie.Need-returns-4
 returns-4 c =
     let l = c .before .before in
     let a = l .before .before .before .args in
-    rw (not-false (a .connected) (l .before .if1 .left)) (sym (step-unclear (a .ranges) (a .cmd .now) (sym (l .classify .ensures) ∙ c .enum-told .given .1)))
+    rw (not-false (a .connected) (l .before .if1 .left)) (sym (step-unclear (a .ranges) (a .cmd .now) (sym (l .classify .ensures .0) ∙ c .enum-told .given .1)))
 
 pub first-step-spec : {M : Type 1} → statement M
 first-step-spec =

@@ -1,5 +1,6 @@
 -- `command::classify` meets its contract: the steps of document 01 in their order.
 use Rattle.command.specs.Classify.{commandOf}
+use Rattle.command.specs.Laws.{told}
 use borrow.Author.Tests.{lt-ltb, le-ltb}
 use borrow.Author.Needs.{needs}
 use Rattle.command.proofs.classify.Statement.{statement}
@@ -16,7 +17,7 @@ unfolding commandOf
 returns c =
     let i = c .before .supported-pids-index .ensures in
     let s = c .before .before .strip-response-count .ensures in
-    rw (← s, ← i, lt-ltb _ _ (c .if1 .taken))
+    told (rw (← s, ← i, lt-ltb _ _ (c .if1 .taken)))
 
 wire-command-to-pid-requires : tie.Need-wire-command-to-pid-requires
 wire-command-to-pid-requires c κs = search needs
@@ -27,7 +28,7 @@ returns-2 c =
     let b = c .before .before in
     let i = b .supported-pids-index .ensures in
     let s = b .before .strip-response-count .ensures in
-    rw (← s, ← i, le-ltb _ _ (c .before .if1 .left)) (c .wire-command-to-pid .ensures)
+    told (rw (← s, ← i, le-ltb _ _ (c .before .if1 .left)) (c .wire-command-to-pid .ensures))
 
 pub classify-spec : {M : Type 1} → statement M
 classify-spec =

@@ -9,18 +9,21 @@ use denote.Struct.Struct.{Struct}
 use lib.ListN.{length, getD, length-map}
 use mathlib.Core.List.{List, [], _∷_, map}
 use mathlib.Core.Path.{_≡_, refl, sym, subst, _∙_}
-use mir.Syntax.{w8}
+use mir.Syntax.{w8, w32}
 use mir.Val.{Val, Fits}
 use Prim.Native.Nat.{ℕ, zero, suc}
+use native.Mathlib.Omega.{arith}
 use Rattle.base.specs.Bytes.{Bytes, no-bytes}
 use Rattle.base.specs.Refusal.{first-none}
+use Rattle.config.proofs.Settings.{the-type as settings-type}
+use Rattle.config.specs.declared.Settings.{Settings}
 use Rattle.dispatch.specs.Dispatch.{callOf, areaBy, fills}
 use Rattle.dispatch.specs.Laws.{filled, found, refused-late, done-timely}
 use Rattle.manager_calls.specs.Settle.{own-settled}
 use Rattle.obd2.proofs.call.Call.{the-type}
 use Rattle.obd2.proofs.call.Call.Laws.{the-laws}
 use Rattle.obd2.specs.Call as history
-use Rattle.obd2.specs.Call.{Fit, FitResponse, timeOf}
+use Rattle.obd2.specs.Call.{Fit, FitResponse, FitSettings, timeOf}
 use Rattle.obd2.specs.Done.{managerBy}
 use Rattle.obd2.specs.History.{lentBy}
 use Rattle.obd2.specs.Refusals.{managerRows}
@@ -61,6 +64,10 @@ use Rattle.obd2.specs.Core.{lent, boxOf, refused-is}
 abbrev Holds : Call → Type 0
 Holds k = Fields (variants the-type) (spellss (the-type .parts) the-laws) (the-type .to k)
 
+-- A ratio has 32 bits by its type.
+settings-fit : (st : Settings) (vs : List Val) → shadow (Struct (shape settings-type) .own (settings-type .to st) vs) → FitSettings st
+settings-fit st vs s = let f : Fits w32 (st .ratio) = search needs in omega (arith, f .fits)
+
 -- What can be handed in is what demand 3 speaks of, at the time that is handed in.
 fits : (t : ℕ) (b : Brought) (cmd area : List ℕ) → FitResponse (b .response) → length (b .profiles .list) ≡ 16 → (k : Call) → Holds k
     → (timeOf (callOf t k b cmd area) ≡ t) × Fit (callOf t k b cmd area)
@@ -75,7 +82,7 @@ fits t b cmd area r n ProfilePidsChanged h = (refl, n)
 fits t b cmd area r n (Waiting p) h = (refl, h .0 .1)
 fits t b cmd area r n (Consumed p w) h = (refl, h .0 .1)
 fits t b cmd area r n Tick h = (refl, tt)
-fits t b cmd area r n (SetSettings st) h = (refl, tt)
+fits t b cmd area r n (SetSettings st) h = (refl, settings-fit st _ (h .0))
 fits t b cmd area r n TakeControl h = (refl, tt)
 fits t b cmd area r n Connect h = (refl, tt)
 fits t b cmd area r n ConnectFailed h = (refl, tt)
@@ -504,7 +511,7 @@ returns-12 c =
       (
         λ z. (refl, refl),
         found o (a .time) (a .brought) (now (a .cmd)) (now (a .area)) (c .before .before .call7 .given .1)
-            (done-timely o (a .time) (a .brought) (now (a .cmd)) (now (a .area)) _ tt (sym (g .before .bad-time .ensures) ∙ g .if1 .left) (e x, refl)),
+            (done-timely o (a .time) (a .brought) (now (a .cmd)) (now (a .area)) _ (settings-fit _ _ (subst Holds (c .before .before .call7 .given .1) (owed the-type the-laws (a .call) _ (s .good .1 .1 .1 .1 .1 .1 .1 .1 .1 .1 .1 .1 .0)) .0)) (sym (g .before .bad-time .ensures) ∙ g .if1 .left) (e x, refl)),
       ),
     )
 

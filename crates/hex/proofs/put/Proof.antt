@@ -1,5 +1,5 @@
-use Rattle.hex.specs.Laws.{text-length, Filled, filled-none, filled-same, filled-next}
-use Rattle.hex.specs.Pairs.{hexText}
+use Rattle.hex.specs.Laws.{text-length, filled-none, filled-same, filled-next}
+use Rattle.hex.specs.Pairs.{hexText, Filled}
 use Rattle.text.specs.Put.{putOf, putEnd, put-full, end-full, put-fits, end-fits}
 use Rattle.base.specs.Write.{over}
 use borrow.Author.Needs.{needs}

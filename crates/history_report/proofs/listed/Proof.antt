@@ -1,7 +1,7 @@
 -- `history_report::listed` meets its contract. The invariant: what is left of the rates.
 use Rattle.writing.specs.Fill.{Left, left-all, left-next, left-none}
-use Rattle.history_report.specs.Texts.{ratesText}
-use Rattle.history_report.specs.Laws.{ratesIn, rated-next, rated-end}
+use Rattle.history_report.specs.Texts.{ratesText, ratesIn}
+use Rattle.history_report.specs.Laws.{rated-next, rated-end}
 use Rattle.report.specs.Rates.{ratings}
 use lib.Ieee.{nan}
 use mathlib.Core.Path.{_≡_}

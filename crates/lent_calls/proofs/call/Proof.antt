@@ -199,7 +199,7 @@ module _ {M : Type 1} (𝓤 : URA M) (H : Heap 𝓤) (A : Atoms 𝓤) (W : Given
   areaAfter c = areaOf s t k c (y .now) (z .now)
 
   abbrev Made : Answered → Brought → Type 0
-  Made r c = Promised s (callOf t k c (y .now) (z .now)) (r .answer)
+  Made r c = Promised s (callOf t k c (y .now) (z .now)) r
 
   abbrev all : Brought
   all = bringing b (copiedOf (x .now))

@@ -1,6 +1,6 @@
 -- `start` meets its contract, by a walk of its MIR: the checker's own walk goes no way through a slice of records.
 -- Of `copied` and of the start over an array the walk knows their contracts alone.
-use mathlib.Core.Path.{_≡_, refl, _∙_, ap}
+use mathlib.Core.Path.{_≡_, refl, _∙_, ap, subst}
 use Prim.Native.Nat.{ℕ, _<_, _^_}
 use mathlib.Core.List.{[], _∷_, List}
 use lib.Dec.{T as Holds}
@@ -48,9 +48,8 @@ use Rattle.config.proofs.Profiles as P
 use Rattle.config.proofs.Profiles.Laws as P′
 use Rattle.config.proofs.Settings as S
 use Rattle.config.proofs.Settings.Laws as S′
-use Rattle.obd2.specs.Answers.{numberIn}
+use Rattle.obd2.specs.Answers.{PromisedStart}
 use Rattle.obd2.specs.History.{startOf}
-use Rattle.obd2.specs.Refusals.{startRefusal}
 use Rattle.obd2.specs.declared.Answered.{Answered}
 use Rattle.obd2.proofs.Answered as O
 use Rattle.obd2.proofs.Answered.Laws as O′
@@ -144,7 +143,7 @@ module _ {M : Type 1} (𝓤 : URA M) (H : Heap 𝓤) (A : Atoms 𝓤) (W : Given
     abbrev to-over : Over 𝓤 H A at-mem run .Ghost
     to-over = ((tt, tt, tt, held, (vint w64 t ∷ [], (settingsVal ∷ [], (u ∷ [], tt)))), tt)
 
-  exits : (r : Answered) (w : Val) → r ≡ startOf t st (copiedOf (x .now)) → numberIn (r .answer) ≡ startRefusal t st (copiedOf (x .now)) → ent 𝓤 (⋆ 𝓤 H A (‵ (O.the-row .own r (w ∷ [])) ∷ tokens ∷ [])) (Post w)
+  exits : (r : Answered) (w : Val) → r ≡ startOf t st (copiedOf (x .now)) → PromisedStart t st (copiedOf (x .now)) r → ent 𝓤 (⋆ 𝓤 H A (‵ (O.the-row .own r (w ∷ [])) ∷ tokens ∷ [])) (Post w)
   exits r w e f =
       qed W (‵ (O.the-row .own r (w ∷ [])) ∷ tokens ∷ []) ∵
       suffices ! _ (ends-at 𝓤 H A start.ended stayed (start.clauses 𝓤 H A at-mem run) W bound w r (tt, (tt, (tt, tt))) (tt, (tt, (tt, tt)))) $ says2 ! e f $
@@ -172,13 +171,13 @@ module _ {M : Type 1} (𝓤 : URA M) (H : Heap 𝓤) (A : Atoms 𝓤) (W : Given
         owned ! u64 (Is u64) (uint-makes 𝓤 H A W w64) t _ (refl, t-fits) $ fjoin ! $ nothing ! $ use2 W (raw (Over 𝓤 H A at-mem run .pre (to-over d u))) (∗emp 𝓤 _) $
         calls-at ! fm (Over 𝓤 H A at-mem run) known-over (to-over d u)
         (and-then ! (load ! (from ! (stop !)) (look ! 8 refl)) (and-then ! (load ! (from ! (stop !)) (look ! 6 refl)) (and-then ! (load ! (from ! (stop !)) (look ! 2 refl)) (no-more !)))) (λ w.
-        told2 ! tt (‵ ftrue) O.the-row (λ r. r ≡ startOf t st d) (λ r. numberIn (r .answer) ≡ startRefusal t st d) (lasts over.ended tt (held d u)) w (id⊢ 𝓤 _) (λ r r-is n-is.
+        told2 ! tt (‵ ftrue) O.the-row (λ r. r ≡ startOf t st d) (λ r. PromisedStart t st d r) (lasts over.ended tt (held d u)) w (id⊢ 𝓤 _) (λ r r-is n-is.
         peeks ! O.the-row (Is O.the-row) (shows 𝓤 H A O.the-row) r (w ∷ []) (λ r-fits.
         -- [what the answer owns; true; the token; _4; …; .. _0; …]
         land ! (from ! (stop !)) (init ! 11 refl (O-typed r w r-fits)) $
         returns ! (look ! 11 refl) $ forget ! 3 refl $ forget ! 5 refl $ forget ! 7 refl $ forget ! 9 refl $ forget ! 11 refl $
         move ! (11 ∷ 12 ∷ []) $ free1 ! $ move ! (9 ∷ 10 ∷ []) $ free1 ! $ move ! (7 ∷ 8 ∷ []) $ free1 ! $ move ! (5 ∷ 6 ∷ []) $ free1 ! $ move ! (3 ∷ 4 ∷ []) $ free1 ! $ free0 ! $
-        keep ! (0 ∷ 2 ∷ []) $ by ! (exits r w (r-is ∙ ap (startOf t st) d-is) (n-is ∙ ap (startRefusal t st) d-is)))))))))))))
+        keep ! (0 ∷ 2 ∷ []) $ by ! (exits r w (r-is ∙ ap (startOf t st) d-is) (subst (λ (y : Profiles). PromisedStart t st y r) d-is n-is)))))))))))))
 
 module _ {M : Type 1} (𝓤 : URA M) (H : Heap 𝓤) (A : Atoms 𝓤) (W : Given 𝓤 H A) (at-mem : Memory → SProp 𝓤) (run : Routine → Fun 𝓤) (𝓣 : Tables 𝓤 H)
     (known-copied : Triple 𝓤 (𝓣 .C #copied) (Copied 𝓤 H A at-mem run)) (known-over : Triple 𝓤 (𝓣 .C #over) (Over 𝓤 H A at-mem run)) where

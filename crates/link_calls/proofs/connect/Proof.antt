@@ -1,6 +1,6 @@
 use mathlib.Core.List.{[]}
 use mathlib.Core.Path.{refl, sym, _∙_}
-use Rattle.obd2.specs.Answers.{settled-here, settled-next, settled-none}
+use Rattle.obd2.specs.Answers.{answers, settled-here, settled-next, settled-none}
 use Rattle.obd2.specs.Core.{withPoller, boxOf, refused-is}
 use Rattle.obd2.specs.Done.{linkBy, doneOf}
 use Rattle.obd2.specs.History.{inTime}
@@ -21,7 +21,7 @@ returns c =
       b .pre,
       λ x.
           let y = withPoller x (withConnection (x .polling) (a .known .now) (a .ranges .now)) in
-          settled-here (boxOf y (a .core)) _ 3 _ (sym (g .before .any-over .ensures) ∙ g .if1 .taken) refl (refused-is y (a .core) _ 3 (c .refuse .ensures)),
+          answers (settled-here (boxOf y (a .core)) _ 3 _ (sym (g .before .any-over .ensures) ∙ g .if1 .taken) refl (refused-is y (a .core) _ 3 (c .refuse .ensures))),
     )
 
 -- src/lib.rt:82:9
@@ -35,8 +35,8 @@ returns-2 c =
       b .pre,
       λ x.
           let y = withPoller x (withConnection (x .polling) (a .known .now) (a .ranges .now)) in
-          settled-next (boxOf y (a .core)) _ 3 _ (sym (g .before .any-over .ensures) ∙ g .if1 .left)
-          (settled-here (boxOf y (a .core)) _ 12 [] (sym (k .before .open .ensures) ∙ k .if2 .taken) refl (refused-is y (a .core) _ 12 (c .refuse2 .ensures))),
+          answers (settled-next (boxOf y (a .core)) _ 3 _ (sym (g .before .any-over .ensures) ∙ g .if1 .left)
+          (settled-here (boxOf y (a .core)) _ 12 [] (sym (k .before .open .ensures) ∙ k .if2 .taken) refl (refused-is y (a .core) _ 12 (c .refuse2 .ensures)))),
     )
 
 -- src/lib.rt:64:1
@@ -50,9 +50,9 @@ returns-3 c =
       l .connect .ensures .0,
       λ x.
           let y = withPoller x (withConnection (x .polling) (a .known .now) (a .ranges .now)) in
-          settled-next (boxOf y (a .core)) _ 3 _ (sym (g .before .any-over .ensures) ∙ g .if1 .left)
+          answers (settled-next (boxOf y (a .core)) _ 3 _ (sym (g .before .any-over .ensures) ∙ g .if1 .left)
           (settled-next (boxOf y (a .core)) _ 12 [] (sym (k .before .open .ensures) ∙ k .if2 .left)
-          (settled-none (boxOf y (a .core)) _ (rw (c .accept .ensures, c .before .no-notes .ensures, none-in (x .pids) (x .rates), ← l .connect .ensures .1 (x .polling))))),
+          (settled-none (boxOf y (a .core)) _ (rw (c .accept .ensures, c .before .no-notes .ensures, none-in (x .pids) (x .rates), ← l .connect .ensures .1 (x .polling)))))),
     )
 
 pub connect-spec : {M : Type 1} → statement M

@@ -1,6 +1,6 @@
 use mathlib.Core.List.{[]}
 use mathlib.Core.Path.{refl, sym, _∙_}
-use Rattle.obd2.specs.Answers.{settled-here, settled-next, settled-none}
+use Rattle.obd2.specs.Answers.{answers, settled-here, settled-next, settled-none}
 use Rattle.obd2.specs.Core.{withLine, boxOf, refused-is}
 use Rattle.obd2.specs.Done.{doneOf}
 use Rattle.obd2.specs.History.{inTime}
@@ -20,7 +20,7 @@ returns c =
       b .pre,
       λ x.
           let y = withLine x (a .slots .now) (a .polled .now) in
-          settled-here (boxOf y (a .core)) _ 12 [] (sym (g .before .open .ensures) ∙ g .if1 .taken) refl (refused-is y (a .core) _ 12 (c .refuse .ensures)),
+          answers (settled-here (boxOf y (a .core)) _ 12 [] (sym (g .before .open .ensures) ∙ g .if1 .taken) refl (refused-is y (a .core) _ 12 (c .refuse .ensures))),
     )
 
 -- src/lib.rt:35:1
@@ -34,8 +34,8 @@ returns-2 c =
       l .listing .ensures .0,
       λ x.
           let y = withLine x (a .slots .now) (a .polled .now) in
-          settled-next (boxOf y (a .core)) _ 12 [] (sym (g .before .open .ensures) ∙ g .if1 .left)
-          (settled-none (boxOf y (a .core)) _ (rw (c .accept .ensures, c .before .no-notes .ensures, none-in (x .pids) (x .rates), l .listing .ensures .1 (x .polling), t .take .ensures .0, t .take .ensures .1))),
+          answers (settled-next (boxOf y (a .core)) _ 12 [] (sym (g .before .open .ensures) ∙ g .if1 .left)
+          (settled-none (boxOf y (a .core)) _ (rw (c .accept .ensures, c .before .no-notes .ensures, none-in (x .pids) (x .rates), l .listing .ensures .1 (x .polling), t .take .ensures .0, t .take .ensures .1)))),
     )
 
 pub take-control-spec : {M : Type 1} → statement M

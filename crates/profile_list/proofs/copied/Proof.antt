@@ -58,8 +58,8 @@ use Rattle.config.proofs.Profile.Laws as R′
 use Rattle.config.proofs.Profiles as P
 use Rattle.config.proofs.Profiles.Laws as P′
 use Rattle.walks.proofs.Steps.{told}
-use Rattle.profile_list.specs.Copied.{copiedOf, countOf, keptOf, blanks}
-use Rattle.profile_list.specs.Laws.{partOf, part-start, part-next, part-end, kept-within}
+use Rattle.profile_list.specs.Copied.{copiedOf, countOf, keptOf, blanks, partOf}
+use Rattle.profile_list.specs.Laws.{part-start, part-next, part-end, kept-within}
 use Rattle.profile_list.proofs.kept as kept
 use Rattle.profile_list.proofs.kept.Symbol as kept-def
 use Rattle.profile_list.proofs.kept.Symbol.{name as #kept}

@@ -1,6 +1,6 @@
 use mathlib.Core.List.{[]}
 use mathlib.Core.Path.{refl, sym, _∙_}
-use Rattle.obd2.specs.Answers.{settled-here, settled-next, settled-none}
+use Rattle.obd2.specs.Answers.{answers, settled-here, settled-next, settled-none}
 use Rattle.obd2.specs.Core.{withPoller, boxOf, refused-is}
 use Rattle.obd2.specs.Done.{roundBy, doneOf}
 use Rattle.obd2.specs.History.{inTime}
@@ -23,7 +23,7 @@ returns c =
         b .pre .1,
         λ x ranges.
             let y = withPoller x (held (a .polled .now) (a .known .now) (a .order .now) ranges) in
-            settled-here (boxOf y (a .core)) _ 12 [] (sym (g .before .open .ensures) ∙ g .if1 .taken) refl (refused-is y (a .core) _ 12 (c .refuse .ensures)),
+            answers (settled-here (boxOf y (a .core)) _ 12 [] (sym (g .before .open .ensures) ∙ g .if1 .taken) refl (refused-is y (a .core) _ 12 (c .refuse .ensures))),
       ),
     )
 
@@ -40,8 +40,8 @@ returns-2 c =
         e .1 .0,
         λ x ranges.
             let y = withPoller x (held (a .polled .now) (a .known .now) (a .order .now) ranges) in
-            settled-next (boxOf y (a .core)) _ 12 [] (sym (g .before .open .ensures) ∙ g .if1 .left)
-            (settled-none (boxOf y (a .core)) _ (rw (c .accept .ensures, c .before .no-notes .ensures, none-in (x .pids) (x .rates), e .1 .1 ranges))),
+            answers (settled-next (boxOf y (a .core)) _ 12 [] (sym (g .before .open .ensures) ∙ g .if1 .left)
+            (settled-none (boxOf y (a .core)) _ (rw (c .accept .ensures, c .before .no-notes .ensures, none-in (x .pids) (x .rates), e .1 .1 ranges)))),
       ),
     )
 

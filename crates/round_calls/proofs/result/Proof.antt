@@ -1,7 +1,7 @@
 use mathlib.Core.Bool.{not}
 use mathlib.Core.List.{[]}
 use mathlib.Core.Path.{refl, sym, ap, _∙_}
-use Rattle.obd2.specs.Answers.{settled-here, settled-next, settled-none}
+use Rattle.obd2.specs.Answers.{answers, settled-here, settled-next, settled-none}
 use Rattle.obd2.specs.Core.{withPoller, boxOf, refused-is}
 use Rattle.obd2.specs.Done.{roundBy, doneOf}
 use Rattle.obd2.specs.History.{inTime}
@@ -24,7 +24,7 @@ returns c =
         b .pre .1,
         λ x order.
             let y = withPoller x (held (a .polled .now) (a .known .now) order (a .ranges .now)) in
-            settled-here (boxOf y (a .core)) _ 13 [] (ap not (sym (g .before .due .ensures)) ∙ g .if1 .taken) refl (refused-is y (a .core) _ 13 (c .refuse .ensures)),
+            answers (settled-here (boxOf y (a .core)) _ 13 [] (ap not (sym (g .before .due .ensures)) ∙ g .if1 .taken) refl (refused-is y (a .core) _ 13 (c .refuse .ensures))),
       ),
     )
 
@@ -41,8 +41,8 @@ returns-2 c =
         e .1 .0,
         λ x order.
             let y = withPoller x (held (a .polled .now) (a .known .now) order (a .ranges .now)) in
-            settled-next (boxOf y (a .core)) _ 13 [] (ap not (sym (g .before .due .ensures)) ∙ g .if1 .left)
-            (settled-none (boxOf y (a .core)) _ (rw (c .accept .ensures, c .before .no-notes .ensures, none-in (x .pids) (x .rates), e .1 .1 order))),
+            answers (settled-next (boxOf y (a .core)) _ 13 [] (ap not (sym (g .before .due .ensures)) ∙ g .if1 .left)
+            (settled-none (boxOf y (a .core)) _ (rw (c .accept .ensures, c .before .no-notes .ensures, none-in (x .pids) (x .rates), e .1 .1 order)))),
       ),
     )
 

@@ -1,9 +1,13 @@
 use mathlib.Core.Bool.{true, false}
 use mathlib.Core.List.{[]}
+use mir.Syntax.{w32}
+use mir.Val.{Fits}
+use native.Mathlib.Omega.{arith}
 use mathlib.Core.Path.{refl, sym, _∙_}
 use Rattle.profile_check.specs.Check.{badProfiles, unknownMode}
 use Rattle.obd2.specs.Core.{lent}
-use Rattle.obd2.specs.Answers.{settled-here, settled-next, settled-none}
+use Rattle.obd2.specs.Answers.{promised-start, settled-here, settled-next, settled-none}
+use Rattle.obd2.specs.Call.{FitSettings}
 use Rattle.poller.specs.Core.{held}
 use Rattle.setup_calls.specs.Cases.{start-is, either-first, either-second, accepted-start}
 use borrow.Author.Needs.{needs}
@@ -17,6 +21,10 @@ use Rattle.profile_check.proofs.bad_profiles.Reads as bad-profiles-reads
 use Rattle.profile_check.proofs.unknown_mode.Reads as unknown-mode-reads
 use Rattle.setup_calls.proofs.refuse_start.Reads as refuse-start-reads
 use Rattle.setup_calls.proofs.started.Reads as started-reads
+
+-- A ratio has 32 bits by its type.
+settings-fit : (c : tie.Start) → FitSettings (c .args .settings)
+settings-fit c = let f : Fits w32 (c .args .settings .ratio) = search needs in omega (arith, f .fits)
 
 -- src/lib.rt:135:8
 bad-time-requires : tie.Need-bad-time-requires
@@ -34,6 +42,7 @@ returns c =
     let t = b .before .args .time in
     let x = b .before .args .settings in
     let y = b .before .args .profiles in
+    let fit = settings-fit (b .before) in
     let late = sym (b .bad-time .ensures) ∙ w .if1 .taken in
     let e = c .refuse-start .ensures in (
       e .0,
@@ -44,8 +53,8 @@ returns c =
           (
             e .1 .1 .1 .0,
             (
-              λ pids rates. start-is t x y (settled-here _ _ 1 _ late refl (e .1 .1 .1 .1 pids rates)) .0,
-              start-is t x y (settled-here _ _ 1 _ late refl (e .1 .1 .1 .1 [] [])) .1,
+              λ pids rates. start-is t x y (settled-here _ _ 1 _ late refl (e .1 .1 .1 .1 pids rates)),
+              λ pids rates. promised-start t x y fit (start-is t x y (settled-here _ _ 1 _ late refl (e .1 .1 .1 .1 pids rates))),
             ),
           ),
         ),
@@ -70,6 +79,7 @@ returns-2 c =
     let t = b .before .args .time in
     let x = b .before .args .settings in
     let y = b .before .args .profiles in
+    let fit = settings-fit (b .before) in
     let soon = sym (b .bad-time .ensures) ∙ g .if1 .left in
     let bad = either-first (unknownMode (x .mode)) (badProfiles y) (sym (k .unknown-mode .ensures) ∙ w .if2 .taken) in
     let e = c .refuse-start2 .ensures in (
@@ -81,8 +91,8 @@ returns-2 c =
           (
             e .1 .1 .1 .0,
             (
-              λ pids rates. start-is t x y (settled-next _ _ 1 _ soon (settled-here _ _ 2 _ bad refl (e .1 .1 .1 .1 pids rates))) .0,
-              start-is t x y (settled-next _ _ 1 _ soon (settled-here _ _ 2 _ bad refl (e .1 .1 .1 .1 [] []))) .1,
+              λ pids rates. start-is t x y (settled-next _ _ 1 _ soon (settled-here _ _ 2 _ bad refl (e .1 .1 .1 .1 pids rates))),
+              λ pids rates. promised-start t x y fit (start-is t x y (settled-next _ _ 1 _ soon (settled-here _ _ 2 _ bad refl (e .1 .1 .1 .1 pids rates)))),
             ),
           ),
         ),
@@ -109,6 +119,7 @@ returns-3 c =
     let t = b .before .args .time in
     let x = b .before .args .settings in
     let y = b .before .args .profiles in
+    let fit = settings-fit (b .before) in
     let soon = sym (b .bad-time .ensures) ∙ g .if1 .left in
     let mode = sym (k .unknown-mode .ensures) ∙ h .if2 .left in
     let bad = either-second (unknownMode (x .mode)) (badProfiles y) true mode (sym (n .bad-profiles .ensures) ∙ w .if3 .taken) in
@@ -121,8 +132,8 @@ returns-3 c =
           (
             e .1 .1 .1 .0,
             (
-              λ pids rates. start-is t x y (settled-next _ _ 1 _ soon (settled-here _ _ 2 _ bad refl (e .1 .1 .1 .1 pids rates))) .0,
-              start-is t x y (settled-next _ _ 1 _ soon (settled-here _ _ 2 _ bad refl (e .1 .1 .1 .1 [] []))) .1,
+              λ pids rates. start-is t x y (settled-next _ _ 1 _ soon (settled-here _ _ 2 _ bad refl (e .1 .1 .1 .1 pids rates))),
+              λ pids rates. promised-start t x y fit (start-is t x y (settled-next _ _ 1 _ soon (settled-here _ _ 2 _ bad refl (e .1 .1 .1 .1 pids rates)))),
             ),
           ),
         ),
@@ -149,6 +160,7 @@ returns-4 c =
     let t = b .before .args .time in
     let x = b .before .args .settings in
     let y = b .before .args .profiles in
+    let fit = settings-fit (b .before) in
     let soon = sym (b .bad-time .ensures) ∙ g .if1 .left in
     let mode = sym (k .unknown-mode .ensures) ∙ h .if2 .left in
     let good = either-second (unknownMode (x .mode)) (badProfiles y) false mode (sym (n .bad-profiles .ensures) ∙ i .if3 .left) in
@@ -163,8 +175,8 @@ returns-4 c =
           (
             e .1 .1 .1 .0,
             (
-              λ pids rates. start-is t x y (settled-next _ _ 1 _ soon (settled-next _ _ 2 _ good (settled-none _ _ (accepted-start t x y (lent (v .0) (v .1 .0) (v .1 .1 .0) (v .1 .1 .1 .0) p pids rates) _ _ (e .1 .1 .1 .1 pids rates) (c .no-notes .ensures))))) .0,
-              start-is t x y (settled-next _ _ 1 _ soon (settled-next _ _ 2 _ good (settled-none _ _ (accepted-start t x y (lent (v .0) (v .1 .0) (v .1 .1 .0) (v .1 .1 .1 .0) p [] []) _ _ (e .1 .1 .1 .1 [] []) (c .no-notes .ensures))))) .1,
+              λ pids rates. start-is t x y (settled-next _ _ 1 _ soon (settled-next _ _ 2 _ good (settled-none _ _ (accepted-start t x y (lent (v .0) (v .1 .0) (v .1 .1 .0) (v .1 .1 .1 .0) p pids rates) _ _ (e .1 .1 .1 .1 pids rates) (c .no-notes .ensures))))),
+              λ pids rates. promised-start t x y fit (start-is t x y (settled-next _ _ 1 _ soon (settled-next _ _ 2 _ good (settled-none _ _ (accepted-start t x y (lent (v .0) (v .1 .0) (v .1 .1 .0) (v .1 .1 .1 .0) p pids rates) _ _ (e .1 .1 .1 .1 pids rates) (c .no-notes .ensures)))))),
             ),
           ),
         ),

@@ -28,7 +28,7 @@ classify-requires c κs = search needs
 
 returns : tie.Need-returns
 unfolding keptOf
-returns c = c .classify .ensures
+returns c = c .classify .ensures .0
 
 slice-aggregate-classify-2 : tie.Need-slice-aggregate-classify-2
 slice-aggregate-classify-2 c = search needs
@@ -41,7 +41,7 @@ unfolding keptOf
 returns-2 c =
     let s = c .before .before .before .before .before in
     let n = six s in
-    c .classify2 .ensures ∙ ap commandOf (sym (take-all (s .args .line .kept) _ (omega arith)))
+    c .classify2 .ensures .0 ∙ ap commandOf (sym (take-all (s .args .line .kept) _ (omega arith)))
 
 pub class-of-spec : {M : Type 1} → statement M
 class-of-spec =

@@ -1,6 +1,6 @@
 use borrow.Author.Needs.{needs}
-use Rattle.transcript.specs.Laws.{Filled, filled-none, filled-room, filled-same, filled-next}
-use Rattle.transcript.specs.Lines.{fedOf, usable, steppedOf}
+use Rattle.transcript.specs.Laws.{filled-none, filled-room, filled-same, filled-next}
+use Rattle.transcript.specs.Lines.{fedOf, usable, steppedOf, Filled}
 use mathlib.Core.Path.{_≡_}
 use lib.Seq.{length-take-le}
 use lib.ListN.{length}

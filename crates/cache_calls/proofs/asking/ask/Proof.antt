@@ -45,7 +45,7 @@ returns c =
     let g = u .unpack-all .ensures in
     let d = rw g at (w .ask .ensures .1 .0) in
     let f = rw g at (w .ask .ensures .1 .1 .0) in
-    let e = rw g at (w .ask .ensures .1 .1 .1) in
+    let e = rw g at (w .ask .ensures .1 .1 .1 .number) in
     let h = c .before .if1 .taken in (
       w .ask .ensures .0,
       (
@@ -82,7 +82,7 @@ returns-2 c =
     let g = u .unpack-all .ensures in
     let d = rw g at (w .ask .ensures .1 .0) in
     let f = rw g at (w .ask .ensures .1 .1 .0) in
-    let e = rw g at (w .ask .ensures .1 .1 .1) in
+    let e = rw g at (w .ask .ensures .1 .1 .1 .number) in
     let z = c .before .before .before .if1 .left in (
       w .ask .ensures .0,
       (

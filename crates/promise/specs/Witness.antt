@@ -1,8 +1,8 @@
--- Some histories meet the claim's hypotheses. A start with a Fast and a Slow PID, their messages taken, a connection made, and two
--- rounds, the second of which passes the slow test; and one with two Slow PIDs alone, where both rounds pass it. All of it is
--- computed from the start. That the lists are sound holds of every history (crates/agreement).
+-- Histories that meet every hypothesis of the demand, all the way from a start: a connection made and a round begun with nothing
+-- listed yet, its end, the messages of two PIDs taken, and from there two rounds. One with a Fast and a Slow PID, where the second
+-- round passes the slow test; one with two Slow PIDs alone, where both rounds pass it. All of it is computed.
 use mathlib.Core.Bool.{Bool, true, false, _&&_}
-use mathlib.Core.List.{List, [], _∷_, map}
+use mathlib.Core.List.{List, [], _∷_, _++_, map}
 use mathlib.Core.Path.{_≡_, refl, ap, _∙_}
 use Prim.Native.Nat.{ℕ, _+_, _*_, _<_, _≤_, max}
 use native.Mathlib.Omega.{arith}
@@ -21,7 +21,7 @@ use Rattle.config.specs.declared.Settings.{Settings}
 use Rattle.control.specs.Outbox.{emptyOf, sendAll, messages, pushOf as pushOut}
 use Rattle.control.specs.Told.{toldOf}
 use Rattle.control.specs.declared.DongleMessage.{DongleMessage}
-use Rattle.control_line.specs.Ring.{emptyLine, pushOf, pushAllOf, takeOf}
+use Rattle.control_line.specs.Ring.{emptyLine, pushOf, pushAllOf, takeOf, from, waiting}
 use Rattle.control_line.specs.declared.Taken.the-variants.{Message}
 use Rattle.link.specs.Rules.{noRanges, startLink, unknownFeatures, connectOf as linkUp}
 use Rattle.link.specs.declared.Session.{Session}
@@ -40,7 +40,8 @@ use Rattle.rounds.specs.declared.Kind.the-variants.{Replied, TimedOut}
 use Rattle.rounds.specs.declared.Outcome.{Outcome}
 use Rattle.profile_check.specs.Check.{badProfiles, unknownMode, unknownOf, many}
 use Rattle.reply.specs.Rules.{withinOf, sumOf, countedOf, lengthsOf, totalOf}
-use Rattle.obd2.specs.Call.{Call, takeControl, connect, round, RoundCall, Begin, Next, Result}
+use Rattle.obd2.specs.Call.{Call, connect, begin, next, round, RoundCall, Begin, Next, Result, Made}
+use Rattle.obd2.specs.Call.{none as none-calls, more as more-calls}
 use Rattle.obd2.specs.Done.{linkBy, roundBy, doneOf}
 use Rattle.obd2.specs.History.{startOf, Event, eventOf, accepted, step, run, happened}
 use Rattle.obd2.specs.Refusals.{overRange, startRefusal, linkRows, roundRows, rowsOf, refusalOf}
@@ -48,7 +49,11 @@ use Rattle.obd2.specs.State.{started}
 use Rattle.obd2.specs.declared.State.{State}
 use Rattle.obd2.specs.declared.Answer.the-variants.{Accepted}
 use Rattle.obd2.specs.declared.Said.the-variants.{Taken}
-use Rattle.round_robin.specs.Claim.{Seen, readBy, seen, seenOver, Quiet, Steady, none, more, openOver, roundsIn, rounds, read, sofar, there, LastingSince}
+use Rattle.agreement.specs.Claim.{asks}
+use Rattle.agreement.specs.Claim.{none as none-asked}
+use Rattle.round_robin.specs.Claim.{Seen, readBy, seen, seenOver, mark, Quiet, Steady, none, more, openOver, roundsIn, rounds, Lasting, read, sofar, there, marksAfter, roundsAfter}
+use Rattle.round_robin.specs.Runs.{marks-told, later-told}
+use Rattle.promise.specs.Statement.{settling, Ending}
 
 abbrev profile : ℕ → ℕ → ℕ → Profile
 profile kind pid priority = record { kind = kind; pid = pid; priority = priority; limited = false; threshold = 0; enabled = true }
@@ -71,8 +76,16 @@ session = record { features = unknownFeatures; ranges = noRanges; known = replic
 abbrev outcome : Kind → Outcome
 outcome kind = record { kind = kind; features = unknownFeatures; learnt = replicate 6 nothing }
 
+-- The list, with a round open and messages waiting, and the call that ends the round.
 abbrev pub opening : List Call
-opening = takeControl 0 ∷ takeControl 1 ∷ connect 2 session ∷ []
+opening = connect 1 session ∷ begin 2 ∷ []
+
+abbrev pub closing : List Call
+closing = next 3 ∷ []
+
+-- The list behind which no message waits.
+abbrev settled : Profiles → List Call
+settled ps = settling 0 second ps opening closing
 
 -- The calls of both histories. A `next` with no round open and a begin in an open one are refused; a result may be a timeout. Without
 -- a fast query the second round ends at 12, and the last two calls are refused.
@@ -133,54 +146,72 @@ all-quiet (x ∷ xs) k s off h =
     let q : Quiet k e = record { stays-up = both-left (seen k e .up) later h; single = λ _. rw off; none-taken = none-taken s (x .0) (x .1); unchanged = same } in
     more q (all-quiet xs (seen k e) s' (ap (λ (y : Settings). y .multi) same ∙ off) (both-right (seen k e .up) later h))
 
--- What the history of a list of profiles comes to: the rounds, the lists before it, and what is read before it.
+-- What the history of a list of profiles comes to: a round is open before the call that ends it and none behind it; then the rounds,
+-- the lists before them, and what is read before them.
 record Computed (ps : Profiles) (fast slow : List ℕ) (rs : List (List ℕ)) : Type 0 where
-  rounds-are : rounds (happened (there 0 second ps opening) calls) ≡ rs
-  fast-is : entries (there 0 second ps opening .poller .fast) ≡ fast
-  slow-is : entries (there 0 second ps opening .poller .slow) ≡ slow
-  settings-are : read 0 second ps opening .settings ≡ second
-  closed : openOver false (sofar 0 second ps opening) ≡ false
-  up : read 0 second ps opening .up ≡ true
-  all-up : allUp (read 0 second ps opening) (happened (there 0 second ps opening) calls) ≡ true
+  opened : openOver false (map mark (sofar 0 second ps opening)) ≡ true
+  over : openOver false (map mark (sofar 0 second ps (opening ++ closing))) ≡ false
+  rounds-are : rounds (map mark (happened (there 0 second ps (settled ps)) calls)) ≡ rs
+  fast-is : entries (there 0 second ps (settled ps) .poller .fast) ≡ fast
+  slow-is : entries (there 0 second ps (settled ps) .poller .slow) ≡ slow
+  settings-are : read 0 second ps (settled ps) .settings ≡ second
+  up : read 0 second ps (settled ps) .up ≡ true
+  all-up : allUp (read 0 second ps (settled ps)) (happened (there 0 second ps (settled ps)) calls) ≡ true
 
 computed : Computed two (12 ∷ []) (5 ∷ []) ((12 ∷ []) ∷ (12 ∷ 5 ∷ []) ∷ []) × Computed overlays [] (5 ∷ 15 ∷ []) ((5 ∷ []) ∷ (15 ∷ []) ∷ [])
-unfolding roundsIn openOver seenOver startOf startRefusal started startManager registerOf noTable through news entryAfter swept tidings countsOf priorityOf wishedBy wishOf joinedWish inForce isFast speed registeredOf toldOf emptyOf sendAll messages pushOut pushAllOf pushOf emptyLine unknownMode unknownOf many badProfiles run step refusalOf rowsOf linkRows roundRows doneOf linkBy roundBy overRange withinOf sumOf countedOf lengthsOf totalOf firstOf someOf takeOf appliedOf setOf removeOf fitOf swapOut appendOf place entries sizeOf wrap emptyList connectOf linkUp startLink noRanges startPoller happened nextPid beginOf nextOf firstQuery slowOf slowDue issueOf endOf moreOf padded keepOf teachOf teachAll learnOf linkAfter roundAfter resultOf pidsOf
+unfolding roundsIn openOver seenOver startOf startRefusal started startManager registerOf noTable through news entryAfter swept tidings countsOf priorityOf wishedBy wishOf joinedWish inForce isFast speed registeredOf toldOf emptyOf sendAll messages pushOut pushAllOf pushOf emptyLine unknownMode unknownOf many badProfiles run step refusalOf rowsOf linkRows roundRows doneOf linkBy roundBy overRange withinOf sumOf countedOf lengthsOf totalOf firstOf someOf takeOf appliedOf setOf removeOf fitOf swapOut appendOf place entries sizeOf wrap emptyList connectOf linkUp startLink noRanges startPoller happened nextPid beginOf nextOf firstQuery slowOf slowDue issueOf endOf moreOf padded keepOf teachOf teachAll learnOf linkAfter roundAfter resultOf pidsOf waiting from
 computed = (
-  record { rounds-are = refl; fast-is = refl; slow-is = refl; settings-are = refl; closed = refl; up = refl; all-up = refl },
-  record { rounds-are = refl; fast-is = refl; slow-is = refl; settings-are = refl; closed = refl; up = refl; all-up = refl },
+  record { opened = refl; over = refl; rounds-are = refl; fast-is = refl; slow-is = refl; settings-are = refl; up = refl; all-up = refl },
+  record { opened = refl; over = refl; rounds-are = refl; fast-is = refl; slow-is = refl; settings-are = refl; up = refl; all-up = refl },
 )
 
-lasts : (ps : Profiles) {fast slow : List ℕ} {rs : List (List ℕ)} → Computed ps fast slow rs → LastingSince 0 second ps opening calls
-lasts ps c = record {
-  closed = c .closed;
-  up = c .up;
-  fits = rw (c .settings-are) (omega arith);
-  steady = all-quiet turns (read 0 second ps opening) (there 0 second ps opening) (rw (c .settings-are)) (c .all-up);
+-- What a history meets: calls that a caller can make, a round that is open and ended, and what is to last.
+pub record Met (ps : Profiles) : Type 0 where
+  pub made : Made second opening
+  pub opened : openOver false (marksAfter 0 second ps opening) ≡ true
+  pub ending : Ending 0 second ps opening closing
+  pub lasting : Lasting (read 0 second ps (settled ps)) (happened (there 0 second ps (settled ps)) calls)
+
+meets : (ps : Profiles) {fast slow : List ℕ} {rs : List (List ℕ)} → Computed ps fast slow rs → Met ps
+meets ps c = record {
+  made = record { start = omega arith; calls = more-calls tt (more-calls tt none-calls) };
+  opened = ap (openOver false) (marks-told 0 second ps opening) ∙ c .opened;
+  ending = record { of-round = asks none-asked; over = ap (openOver false) (marks-told 0 second ps (opening ++ closing)) ∙ c .over };
+  lasting = record {
+    up = c .up;
+    steady = all-quiet turns (read 0 second ps (settled ps)) (there 0 second ps (settled ps)) (rw (c .settings-are)) (c .all-up);
+  };
 }
 
--- The hypotheses of the claim ..
-pub since-start : LastingSince 0 second two opening calls
-since-start = lasts two (computed .0)
+pub met : Met two × Met overlays
+met = (meets two (computed .0), meets overlays (computed .1))
 
-pub slow-since-start : LastingSince 0 second overlays opening calls
-slow-since-start = lasts overlays (computed .1)
+-- The rounds of the calls behind it, as the demand reads them.
+rounds-read : (ps : Profiles) {fast slow : List ℕ} {rs : List (List ℕ)} → Computed ps fast slow rs → roundsAfter 0 second ps (settled ps) calls ≡ rs
+rounds-read ps c = ap rounds (later-told 0 second ps (settled ps) calls) ∙ c .rounds-are
 
--- .. and within it: Ratio mode, a PID in each list, and as many rounds as both stretches need; ..
-pub stretches : let box = there 0 second two opening in
-    (read 0 second two opening .settings .mode ≡ 0 → ⊥)
+-- Within it: Ratio mode, a PID in each list, and as many rounds as both stretches need; ..
+pub stretches : let before = settled two in
+    let box = there 0 second two before in
+    (read 0 second two before .settings .mode ≡ 0 → ⊥)
     × (0 < times 12 (entries (box .poller .fast)))
     × (0 < times 5 (entries (box .poller .slow)))
-    × (0 + length (entries (box .poller .fast)) ≤ length (rounds (happened box calls)))
-    × (0 + length (entries (box .poller .slow)) * max 1 (read 0 second two opening .settings .ratio) ≤ length (rounds (happened box calls)))
+    × (0 + length (entries (box .poller .fast)) ≤ length (roundsAfter 0 second two before calls))
+    × (0 + length (entries (box .poller .slow)) * max 1 (read 0 second two before .settings .ratio) ≤ length (roundsAfter 0 second two before calls))
 unfolding times
-stretches = let c = computed .0 in rw (c .rounds-are, c .fast-is, c .slow-is, c .settings-are) ((λ e. omega arith), omega arith, omega arith, omega arith, omega arith)
+stretches =
+    let c = computed .0 in
+    rw (rounds-read two c, c .fast-is, c .slow-is, c .settings-are) ((λ e. omega arith), omega arith, omega arith, omega arith, omega arith)
 
 -- .. Ratio mode, the fast list empty, two slow PIDs and as many rounds.
-pub slow-stretches : let box = there 0 second overlays opening in
-    (read 0 second overlays opening .settings .mode ≡ 0 → ⊥)
+pub slow-stretches : let before = settled overlays in
+    let box = there 0 second overlays before in
+    (read 0 second overlays before .settings .mode ≡ 0 → ⊥)
     × (length (entries (box .poller .fast)) ≡ 0)
     × (0 < times 5 (entries (box .poller .slow)))
     × (0 < times 15 (entries (box .poller .slow)))
-    × (0 + length (entries (box .poller .slow)) ≤ length (rounds (happened box calls)))
+    × (0 + length (entries (box .poller .slow)) ≤ length (roundsAfter 0 second overlays before calls))
 unfolding times
-slow-stretches = let c = computed .1 in rw (c .rounds-are, c .fast-is, c .slow-is, c .settings-are) ((λ e. omega arith), refl, omega arith, omega arith, omega arith)
+slow-stretches =
+    let c = computed .1 in
+    rw (rounds-read overlays c, c .fast-is, c .slow-is, c .settings-are) ((λ e. omega arith), refl, omega arith, omega arith, omega arith)

@@ -1,0 +1,4 @@
+pub mod Claim
+pub mod Counts
+pub mod Theorem
+pub mod Witness
