@@ -101,9 +101,12 @@ module _ (m : Manager) (k : Tally) (g : Counted m k) (t : Terms) where
     each = g .each;
   }
 
-  consumed-counted : (r : Reading) → r .manager ≡ m → (p : ℕ) (w : WaitDuration) → refusedOf (m .metrics) w ≡ false → Counted (noting m t (event.Consumed p w)) (withOne r p w k)
+-- A Consumed, of which the manager that is read knows whether its PID is known.
+module _ (r : Reading) (k : Tally) (g : Counted (r .manager) k) (t : Terms) where
+  consumed-counted : (p : ℕ) (w : WaitDuration) → refusedOf (r .manager .metrics) w ≡ false → Counted (noting (r .manager) t (event.Consumed p w)) (withOne r p w k)
   unfolding noting
-  consumed-counted r i p w e =
+  consumed-counted p w e =
+      let m = r .manager in
       let h = not-full (m .metrics) w e in
       let a = g .hits in
       let b = g .misses in
@@ -113,7 +116,7 @@ module _ (m : Manager) (k : Tally) (g : Counted m k) (t : Terms) where
       record {
         whole = set-whole _ p (m .table) ∙ g .whole;
         last = g .last;
-        counts = λ q. rw i (let c = g .counts q in rw (← c) (own q .count));
+        counts = λ q. own q .count ∙ ap (λ (x : ℕ). x + one (eqb p q && known r p)) (g .counts q);
         blank = λ q. own q .blank;
         hits = noted-hits (m .metrics) h w ∙ ap (λ (x : ℕ). x + hit w) a;
         misses = noted-misses (m .metrics) h w ∙ ap (λ (x : ℕ). x + miss w) b;
@@ -229,7 +232,7 @@ module _ (s : State) (k : Tally) (g : Counted (s .manager) k) where
   event-counted t (Changed ps) e = changed-counted (s .manager) k g (termsOf t (Changed ps))
   event-counted t (Waiting p) e = waiting-counted (s .manager) k g (termsOf t (Waiting p)) p
   event-counted t (Consumed p w) e =
-      consumed-counted (s .manager) k g (termsOf t (Consumed p w)) (readOff s) refl p w (not-here 4 (refusedOf (s .manager .metrics) w) [] (λ z. omega arith) (manager-free s t (Consumed p w) e))
+      consumed-counted (readOff s) k g (termsOf t (Consumed p w)) p w (not-here 4 (refusedOf (s .manager .metrics) w) [] (λ z. omega arith) (manager-free s t (Consumed p w) e))
   event-counted t Tick e = g
 
   pub done-counted : (c : Call) → refusalOf s c ≡ 0
