@@ -40,6 +40,7 @@ use Rattle.rounds.specs.declared.Kind.the-variants.{Replied, TimedOut}
 use Rattle.rounds.specs.declared.Outcome.{Outcome}
 use Rattle.profile_check.specs.Check.{badProfiles, unknownMode, unknownOf, many}
 use Rattle.reply.specs.Rules.{withinOf, sumOf, countedOf, lengthsOf, totalOf}
+use Rattle.obd2.specs.Answers.{valuesOf}
 use Rattle.obd2.specs.Call.{Call, connect, begin, next, round, RoundCall, Begin, Next, Result, Made}
 use Rattle.obd2.specs.Call.{none as none-calls, more as more-calls}
 use Rattle.obd2.specs.Done.{linkBy, roundBy, doneOf}
@@ -48,6 +49,7 @@ use Rattle.obd2.specs.Refusals.{overRange, startRefusal, linkRows, roundRows, r
 use Rattle.obd2.specs.State.{started}
 use Rattle.obd2.specs.declared.State.{State}
 use Rattle.obd2.specs.declared.Answer.the-variants.{Accepted}
+use Rattle.obd2.specs.declared.Answered.{Answered}
 use Rattle.obd2.specs.declared.Said.the-variants.{Taken}
 use Rattle.agreement.specs.Claim.{asks}
 use Rattle.agreement.specs.Claim.{none as none-asked}
@@ -215,3 +217,11 @@ unfolding times
 slow-stretches =
     let c = computed .1 in
     rw (rounds-read overlays c, c .fast-is, c .slow-is, c .settings-are) ((λ e. omega arith), refl, omega arith, omega arith, omega arith)
+
+-- What the `next` of its first round answers: the query's PID, and no ECU count yet.
+abbrev queried : Answered
+queried = step (run (there 0 second two (settled two)) (begin 4 ∷ [])) (next 5)
+
+pub query-told : valuesOf (queried .answer) (queried .details) ≡ 12 ∷ 0 ∷ []
+unfolding startOf startRefusal started startManager registerOf noTable through news entryAfter swept tidings countsOf priorityOf wishedBy wishOf joinedWish inForce isFast speed registeredOf toldOf emptyOf sendAll messages pushOut pushAllOf pushOf emptyLine unknownMode unknownOf many badProfiles run step refusalOf rowsOf linkRows roundRows doneOf linkBy roundBy overRange withinOf sumOf countedOf lengthsOf totalOf firstOf someOf takeOf appliedOf setOf removeOf fitOf swapOut appendOf place entries sizeOf wrap emptyList connectOf linkUp startLink noRanges startPoller happened nextPid beginOf nextOf firstQuery slowOf slowDue issueOf endOf moreOf padded keepOf teachOf teachAll learnOf linkAfter roundAfter resultOf pidsOf waiting from
+query-told = refl
