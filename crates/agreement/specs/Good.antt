@@ -43,7 +43,7 @@ use Rattle.obd2.specs.declared.State.{State}
 use Rattle.agreement.specs.Agreed.{Agreed, managed-agreed, taken-agreed, kept-agreed, listed-few}
 
 -- The queries of a round that have not come back, at most: those left to it and the one whose result is due.
-abbrev pub outstanding : Poller → ℕ
+abbrev outstanding : Poller → ℕ
 outstanding p = queriesLeft p + one (dueOf (p .round .phase))
 
 abbrev Kept : State → Type 0

@@ -17,7 +17,7 @@ use Rattle.obd2.specs.Keeps.{after, step-reads}
 use Rattle.obd2.specs.Refusals.{startRefusal, managerRows, refusalOf}
 use Rattle.obd2.specs.State.{managed, started}
 use Rattle.obd2.specs.declared.State.{State}
-use Rattle.agreement.specs.Claim.{Reading, switched, profilesAfter, eventBy, managedBy, readCall, read, readStart}
+use Rattle.agreement.specs.Claim.{Reading, switched, profilesAfter, eventBy, managedBy, readCall, read, readStart, boxAfter, readAfter}
 
 -- The reading of a box.
 abbrev pub readOff : State → Reading
@@ -75,3 +75,9 @@ run-read (c ∷ cs) s =
 pub start-read : (t : ℕ) (st : Settings) (ps : Profiles) → readStart t st ps (startOf t st ps .answer) ≡ readOff (startOf t st ps .state)
 unfolding startOf started
 start-read t st ps = cases _ (eqb (startRefusal t st ps) 0) (λ e. rw e) (λ e. rw e)
+
+-- What is read after a list of calls is so of the box.
+pub box-read : (t : ℕ) (st : Settings) (ps : Profiles) (cs : List Call) → readAfter t st ps cs ≡ readOff (boxAfter t st ps cs)
+box-read t st ps cs =
+    let s = startOf t st ps .state in
+    ap (λ (r : Reading). read r (happened s cs)) (start-read t st ps) ∙ run-read cs s

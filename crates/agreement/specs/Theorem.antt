@@ -16,14 +16,14 @@ use Rattle.rounds.specs.declared.Outcome.{Outcome}
 use Rattle.obd2.specs.Call as calls
 use Rattle.obd2.specs.Call.{Call, next, result, Calls, more}
 use Rattle.obd2.specs.Done.{doneOf}
-use Rattle.obd2.specs.History.{startOf, step, run, happened}
+use Rattle.obd2.specs.History.{startOf, step, run}
 use Rattle.obd2.specs.Keeps.{step-leaves}
 use Rattle.obd2.specs.Refusals.{roundOpen}
 use Rattle.obd2.specs.declared.State.{State}
 use Rattle.agreement.specs.Agreed.{agreed-settled}
-use Rattle.agreement.specs.Claim.{Reading, read, OfRound, none, asks, tells, taking, takeAll, boxAfter, readAfter, AgreementAfter, mostCalls, RoundEnds, Claim}
+use Rattle.agreement.specs.Claim.{Reading, OfRound, none, asks, tells, taking, takeAll, boxAfter, readAfter, AgreementAfter, mostCalls, RoundEnds, Claim}
 use Rattle.agreement.specs.Good.{Good, run-good, start-good}
-use Rattle.agreement.specs.Reads.{readOff, run-read, start-read}
+use Rattle.agreement.specs.Reads.{box-read}
 use Rattle.agreement.specs.Settles.{ends, few-left, takes-fit, take-all}
 
 -- A round's calls are ones that a caller can make, and they leave the manager.
@@ -42,9 +42,6 @@ module _ (t : ℕ) (st : Settings) (ps : Profiles) (cs : List Call) (fit : Calls
   pub box-good : Good (boxAfter t st ps cs)
   box-good = run-good cs (startOf t st ps .state) fit (start-good t st ps)
 
-  read-is : readAfter t st ps cs ≡ readOff (boxAfter t st ps cs)
-  read-is = ap (λ (r : Reading). read r (happened (startOf t st ps .state) cs)) (start-read t st ps) ∙ run-read cs (startOf t st ps .state)
-
   module _ (ds : List Call) (of-round : OfRound ds) (closed : roundOpen (run (boxAfter t st ps cs) ds) ≡ false) where
     abbrev ended : State
     ended = run (boxAfter t st ps cs) ds
@@ -60,7 +57,7 @@ module _ (t : ℕ) (st : Settings) (ps : Profiles) (cs : List Call) (fit : Calls
     agreement-after =
         let g = run-good (taking ended) ended (takes-fit ended) ended-good in
         let m : takeAll ended .manager ≡ readAfter t st ps cs .manager
-        = all-taken .1 ∙ round-manager (boxAfter t st ps cs) of-round ∙ sym (ap (λ (r : Reading). r .manager) read-is) in (
+        = all-taken .1 ∙ round-manager (boxAfter t st ps cs) of-round ∙ sym (ap (λ (r : Reading). r .manager) (box-read t st ps cs)) in (
           all-taken .0,
           subst (λ (x : Manager). Agree (entries (takeAll ended .poller .fast)) (entries (takeAll ended .poller .slow)) (λ q. speedAt (x .table) q)) m
               (agreed-settled _ _ _ _ (g .kept .0) (all-taken .0)),

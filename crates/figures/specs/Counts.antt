@@ -2,10 +2,10 @@
 use mathlib.Core.Bool.{Bool, true, false, _&&_}
 use mathlib.Core.List.{List, [], _∷_}
 use mathlib.Core.Path.{_≡_, refl, ap, sym, _∙_}
-use Prim.Native.Nat.{ℕ, zero, suc, _+_, _<_, _≤_}
+use Prim.Native.Nat.{ℕ, _+_, _<_, _≤_}
 use native.Mathlib.Omega.{arith}
 use lib.Dec.{eqb, ltb}
-use lib.ListN.{length, getD, set, replicate, length-set, List·getD-eq-default}
+use lib.ListN.{length, getD, set, replicate, length-set, length-replicate, getD-replicate, List·getD-eq-default}
 use lib.Seq.{getD-set-same, getD-set-other}
 use borrow.Author.Tests.{eqb-true, eqb-false, eq-eqb, ltb-true, ltb-false}
 use Rattle.base.specs.Choice.{pick, one, cases, false-true}
@@ -168,11 +168,8 @@ module _ (t : Terms) (p : ℕ) (xs : List PidInfo) (q : ℕ) (b : Blank (entry x
       (λ e. record { count = rw e (omega arith); blank = b })
 
 -- Nothing is counted before the start.
-blank-everywhere : (n q : ℕ) → getD (replicate n nobody) q nobody ≡ nobody
-blank-everywhere zero q = refl
-blank-everywhere (suc n) zero = refl
-blank-everywhere (suc n) (suc q) = blank-everywhere n q
-
 pub none-counted : (q : ℕ) → entry noTable q ≡ nobody
 unfolding noTable
-none-counted q = blank-everywhere 256 q
+none-counted q = cases _ (ltb q 256)
+    (λ e. getD-replicate 256 q nobody nobody (ltb-true q 256 e))
+    (λ e. let h = ltb-false q 256 e in let n = length-replicate 256 nobody in past (replicate 256 nobody) q (omega arith))

@@ -1,4 +1,5 @@
 pub mod Claim
 pub mod Counts
+pub mod Reports
 pub mod Theorem
 pub mod Witness

@@ -2,10 +2,10 @@
 -- only; the proof is in `Theorem`, histories that meet every hypothesis in `Witness`.
 --
 -- What the words mean, each read from the start, the accepted calls' arguments and, of readings, the answers:
---   the manager's Fast and Slow PIDs              `readAfter`, `tracked`                 agreement/specs/Claim.antt
---   rounds, asked                                 `marksAfter`, `openOver`, `roundsAfter`  round_robin/specs/Claim.antt
---   connection, settings                          `read`, `Lasting`                      round_robin/specs/Claim.antt
---   registered, replies since, handed, deliveries `Figures`, `hands` of `Deed`           readings/specs/Claim.antt
+--   the manager's Fast and Slow PIDs              `readAfter`, `tracked`      agreement/specs/Claim.antt
+--   rounds, asked                                 `runCall`, `markBy`, `rounds` round_robin/specs/Marks.antt
+--   connection, settings, "while"                 `read`, `Lasting`           round_robin/specs/Claim.antt
+--   registered, replies since, handed, deliveries `Figures`, `hands` of `Deed` readings/specs/Claim.antt
 -- Of the box itself only the poller's two lists are looked at, and which control messages wait.
 use mathlib.Core.Bool.{false}
 use mathlib.Core.List.{List, [], _++_, map}
@@ -22,7 +22,8 @@ use Rattle.obd2.specs.Call.{Call, Calls, Made}
 use Rattle.obd2.specs.History.{startOf, run, happened}
 use Rattle.agreement.specs.Claim.{tracked, OfRound, taking, boxAfter, readAfter, mostCalls, ending}
 use Rattle.readings.specs.Claim.{Readings}
-use Rattle.round_robin.specs.Claim.{mark, openOver, Asked, Lasting, sofar, there, read, marksAfter, roundsAfter}
+use Rattle.round_robin.specs.Claim.{Asked, Lasting, sofar, there, read, marksAfter, roundsAfter}
+use Rattle.round_robin.specs.Marks.{mark, openOver}
 
 -- The list of calls, its round's end and the waiting messages taken, as one list.
 abbrev pub settling : ℕ → Settings → Profiles → List Call → List Call → List Call

@@ -22,7 +22,8 @@ use Rattle.agreement.specs.Claim.{tracked, taking, takeAll, boxAfter, readAfter
 use Rattle.agreement.specs.Settles.{takes-fit}
 use Rattle.agreement.specs.Theorem.{claim, round-calls, box-good, all-taken}
 use Rattle.readings.specs.Theorem.{readings}
-use Rattle.round_robin.specs.Claim.{Mark, openOver, rounds, Asked, Lasting, there, read, roundsAfter, marksAfter}
+use Rattle.round_robin.specs.Claim.{Asked, Lasting, there, read, roundsAfter, marksAfter}
+use Rattle.round_robin.specs.Marks.{Mark, openOver, rounds}
 use Rattle.round_robin.specs.Runs.{marks-told, later-told}
 use Rattle.round_robin.specs.Theorem.{theorem-since, read-is, open-is}
 use Rattle.promise.specs.Statement.{settling, Ending, From, Demand}

@@ -53,7 +53,8 @@ use Rattle.obd2.specs.declared.Answered.{Answered}
 use Rattle.obd2.specs.declared.Said.the-variants.{Taken}
 use Rattle.agreement.specs.Claim.{asks}
 use Rattle.agreement.specs.Claim.{none as none-asked}
-use Rattle.round_robin.specs.Claim.{Seen, readBy, seen, seenOver, mark, Quiet, Steady, none, more, openOver, roundsIn, rounds, Lasting, read, sofar, there, marksAfter, roundsAfter}
+use Rattle.round_robin.specs.Claim.{Seen, readBy, seen, seenOver, Quiet, Steady, none, more, Lasting, read, sofar, there, marksAfter, roundsAfter}
+use Rattle.round_robin.specs.Marks.{mark, openOver, roundsIn, rounds}
 use Rattle.round_robin.specs.Runs.{marks-told, later-told}
 use Rattle.promise.specs.Statement.{settling, Ending}
 

@@ -17,7 +17,7 @@ use Rattle.pid_list.specs.Members.{Sound, sound-length, next-entries}
 use Rattle.pid_list.specs.Robin.{picks, next-some, next-sound, each-once}
 use Rattle.pid_list.specs.Rules.{entries, nextOf}
 use Rattle.pid_list.specs.declared.PidList.{PidList}
-use Rattle.round_robin.specs.Claim.{joined}
+use Rattle.round_robin.specs.Marks.{joined}
 use Rattle.round_robin.specs.Machine.{wanted, stretch, firstly, counted, passed, unsent, failed, Tests, none, more}
 
 -- A list that has entries, as the calls leave it.

@@ -1,3 +1,4 @@
+pub mod Marks
 pub mod Claim
 pub mod Machine
 pub mod Covers

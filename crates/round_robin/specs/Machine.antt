@@ -10,7 +10,7 @@ use Rattle.base.specs.Count.{moreOf}
 use Rattle.config.specs.declared.Settings.{Settings}
 use Rattle.pid_list.specs.Rules.{nextOf}
 use Rattle.pid_list.specs.declared.PidList.{PidList}
-use Rattle.round_robin.specs.Claim.{Mark, aside, roundsIn}
+use Rattle.round_robin.specs.Marks.{Mark, aside, roundsIn}
 
 -- No round is open; the round's first step is next; the slow test is next, or the fast result due; the end is next.
 pub data Stage : Type 0 where

@@ -33,7 +33,8 @@ use Rattle.obd2.specs.Refusals.{startRefusal, roundOpen, refusalOf}
 use Rattle.obd2.specs.State.{started, managed}
 use Rattle.obd2.specs.declared.State.{State}
 use Rattle.obd2.specs.declared.Said.the-variants.{Step}
-use Rattle.round_robin.specs.Claim.{Seen, readBy, seen, seenAt, seenOver, nextMark, markDone, mark, openBy, openOver}
+use Rattle.round_robin.specs.Claim.{Seen, readBy, seen, seenAt, seenOver}
+use Rattle.round_robin.specs.Marks.{nextMark, markDone, mark, openBy, openOver}
 
 pub shut : (ph : Phase) → openOf ph ≡ false → ph ≡ Closed
 shut Closed e = refl

@@ -15,7 +15,8 @@ use Rattle.obd2.specs.Keeps.{after, step-reads}
 use Rattle.obd2.specs.Refusals.{startRefusal, refusalOf}
 use Rattle.obd2.specs.State.{started, managed}
 use Rattle.obd2.specs.declared.State.{State}
-use Rattle.round_robin.specs.Claim.{Mark, aside, Running, runCall, markBy, running, marks, markDone, mark, sofar, there, runStart, runAfter, marksAfter}
+use Rattle.round_robin.specs.Claim.{sofar, there, runStart, runAfter, marksAfter}
+use Rattle.round_robin.specs.Marks.{Mark, aside, Running, runCall, markBy, running, marks, markDone, mark}
 
 -- The reading of a box.
 abbrev pub runOff : State → Running

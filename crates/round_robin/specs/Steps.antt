@@ -39,7 +39,8 @@ use Rattle.obd2.specs.State.{managed}
 use Rattle.obd2.specs.declared.State.{State}
 use Rattle.obd2.specs.declared.Answer.the-variants.{Accepted}
 use Rattle.obd2.specs.declared.Said.the-variants as said
-use Rattle.round_robin.specs.Claim.{Mark, aside, nextMark, markDone, mark, roundsIn, isBegin, Seen, seenAt, Quiet, Steady, more}
+use Rattle.round_robin.specs.Claim.{isBegin, Seen, seenAt, Quiet, Steady, more}
+use Rattle.round_robin.specs.Marks.{Mark, aside, nextMark, markDone, mark, roundsIn}
 use Rattle.round_robin.specs.Machine.{Stage, idle, first, test, over, wanted, Finds, passed, unsent, failed, Tests, After, tested, silent, Ahead, stop, rest}
 use Rattle.round_robin.specs.Reading.{shut, seen-is}
 

@@ -19,7 +19,8 @@ use Rattle.obd2.specs.Call.{Call, FitSettings}
 use Rattle.obd2.specs.History.{startOf, happened}
 use Rattle.obd2.specs.Refusals.{roundOpen}
 use Rattle.obd2.specs.declared.State.{State}
-use Rattle.round_robin.specs.Claim.{Seen, seenAt, seenOver, mark, openOver, rounds, Asked, Lasting, Claim, sofar, there, read, ClaimSince}
+use Rattle.round_robin.specs.Claim.{Seen, seenAt, seenOver, Asked, Lasting, Claim, sofar, there, read, ClaimSince}
+use Rattle.round_robin.specs.Marks.{mark, openOver, rounds}
 use Rattle.round_robin.specs.Covers.{Live, fast-covers, slow-covers}
 use Rattle.round_robin.specs.Machine.{idle, stretch, Ahead}
 use Rattle.round_robin.specs.Reading.{shut, start-seen, seen-run, start-open, open-run}

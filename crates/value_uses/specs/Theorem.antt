@@ -6,10 +6,8 @@ use Prim.Native.Nat.{ℕ, zero, suc, _^_, _<_, _≤_}
 use native.Mathlib.Omega.{arith}
 use lib.Dec.{eqb}
 use borrow.Author.Tests.{eqb-true}
-use Rattle.agreement.specs.Claim.{Reading, boxAfter, readAfter}
-use Rattle.agreement.specs.Claim.{read as readManager}
-use Rattle.agreement.specs.Reads.{readOff, start-read}
-use Rattle.agreement.specs.Reads.{run-read as run-manager}
+use Rattle.agreement.specs.Claim.{Reading}
+use Rattle.agreement.specs.Reads.{box-read}
 use Rattle.base.specs.Bytes.{Bytes}
 use Rattle.base.specs.Choice.{cases}
 use Rattle.base.specs.Refusal.{not-here}
@@ -138,12 +136,6 @@ answering s t r a i h =
       value = rw (step-done s (response t r) e, response-turns s t r e) (turns-value r start (r .count) i h (omega arith));
       notice = rw (step-done s (response t r) e, response-turns s t r e) (turns-notice r start (r .count) i h (omega arith));
     }
-
--- Manager and profiles, as agreement's claim reads them.
-box-read : (t : ℕ) (st : Settings) (ps : Profiles) (cs : List Call) → readAfter t st ps cs ≡ readOff (boxAfter t st ps cs)
-box-read t st ps cs =
-    let s = startOf t st ps .state in
-    ap (λ (r : Reading). readManager r (happened s cs)) (start-read t st ps) ∙ run-manager cs s
 
 pub claim : Claim
 claim = record {
