@@ -1,6 +1,2 @@
 pub mod Claim
 pub mod Agreed
-pub mod Good
-pub mod Settles
-pub mod Reads
-pub mod Theorem

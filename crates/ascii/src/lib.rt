@@ -1,4 +1,6 @@
 // Letters and hex digits in ASCII.
+#![tactic(auto)]
+
 ghost use Rattle.std.specs.Prelude.{◌≡◌};
 ghost use Rattle.ascii.specs.Chars.{between, upper, hex_value, hex_digit};
 

@@ -1,14 +1,14 @@
 -- The box as one value, taken apart into arrays that can be lent and the rest, and put together again.
-use Rattle.core.specs.Prelude.{◌≡◌, ℕ, Bool, List, [], ◌∷◌, map}
+use Rattle.std.specs.Prelude.{◌≡◌, ℕ, Bool, List, [], ◌∷◌, map}
 use Rattle.std.proofs.Common.{ap, sym, subst, ◌∙◌}
 use Rattle.clients.specs.Seats.{seat_in, marks_in, together_again}
 use Rattle.control_line.specs.Rows.{slots_of, line_of}
 use Rattle.desk.specs.declared.Desk.{Desk}
-use Rattle.desk.specs.declared.core.Core as desk
+use Rattle.desk.specs.declared.rest.Core as desk
 use Rattle.dispatch.specs.Dispatch.{call_of, area_of, Promised}
 use Rattle.link.specs.Ranges.{ranges_of}
 use Rattle.link.specs.declared.Link.{Link}
-use Rattle.link.specs.declared.core.Core as link
+use Rattle.link.specs.declared.rest.Core as link
 use Rattle.manager.specs.Rows.{manager_of}
 use Rattle.obd2.specs.Core.{Lent, box_of}
 use Rattle.obd2.specs.History.{step}
@@ -16,11 +16,11 @@ use Rattle.obd2.specs.declared.Answered.{Answered}
 use Rattle.obd2.specs.declared.State.{State}
 use Rattle.obd2.specs.declared.call.Brought.{Brought}
 use Rattle.obd2.specs.declared.call.Call.{Call}
-use Rattle.obd2.specs.declared.core.Core.{Core}
+use Rattle.obd2.specs.declared.rest.Core.{Core}
 use Rattle.pid_table.specs.Rows.{table_of}
 use Rattle.poller.specs.Core.{ends_of, course_of}
 use Rattle.poller.specs.declared.Poller.{Poller}
-use Rattle.poller.specs.declared.core.Core as poller
+use Rattle.poller.specs.declared.rest.Core as poller
 use Rattle.reply.specs.Rows.{store_of}
 
 -- The desk but for its replies and marks.

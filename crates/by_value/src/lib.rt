@@ -1,6 +1,8 @@
 // The box as one value: its start, and any call. The arrays are made out of the value, lent to the call, and put together
 // again, so that a host which wants nothing but a value has the same answers. A host that lends the arrays saves the copies.
-ghost use Rattle.core.specs.Prelude.{◌≡◌, []};
+#![tactic(auto)]
+
+ghost use Rattle.std.specs.Prelude.{◌≡◌, []};
 ghost use Rattle.by_value.specs.Parts.{desk_core, link_core, poller_core, polled_in, known_in, core_of};
 ghost use Rattle.desk.specs.Core.{desk_of};
 ghost use Rattle.dispatch.specs.Dispatch.{call_of, area_of, Promised};
@@ -18,20 +20,20 @@ use link::Link;
 use link::ranges::{RANGE_ROW, RANGES};
 use manager::Manager;
 use obd2::call::{Brought, Call};
-use obd2::core::{Core, Notes, Told};
+use obd2::rest::{Core, Notes, Told};
 use obd2::{Answered, Details, State};
 use poller::Poller;
-use poller::core::{COUNTS, KNOWN, LENGTHS, ORDER, POLLED};
+use poller::rest::{COUNTS, KNOWN, LENGTHS, ORDER, POLLED};
 use reply::rows::ROW;
 
 // The desk but for its replies and marks.
-fn desk_core(desk: Desk) -> desk::core::Core
+fn desk_core(desk: Desk) -> desk::rest::Core
     ensures { result ≡ desk_core desk }
 {
     let clients = desk.clients;
     let seats = clients::seats::seats_of(clients);
     let revs = desk.revs;
-    desk::core::Core {
+    desk::rest::Core {
         clients: seats,
         given: desk.given,
         revs: revs,
@@ -39,12 +41,12 @@ fn desk_core(desk: Desk) -> desk::core::Core
 }
 
 // The connection but for its arrays.
-fn link_core(link: Link) -> link::core::Core
+fn link_core(link: Link) -> link::rest::Core
     ensures { result ≡ link_core link }
 {
     let features = link.features;
     let attempt = link.attempt;
-    link::core::Core {
+    link::rest::Core {
         connected: link.connected,
         features: features,
         attempt: attempt,
@@ -52,16 +54,16 @@ fn link_core(link: Link) -> link::core::Core
 }
 
 // The poller but for its arrays.
-fn poller_core(poller: Poller) -> poller::core::Core
+fn poller_core(poller: Poller) -> poller::rest::Core
     ensures { result ≡ poller_core poller }
 {
-    let fast = poller::core::ends_of(poller.fast);
-    let slow = poller::core::ends_of(poller.slow);
+    let fast = poller::rest::ends_of(poller.fast);
+    let slow = poller::rest::ends_of(poller.slow);
     let link = link_core(poller.link);
     let settings = poller.settings;
-    let plan = poller::core::course_of(poller.plan);
+    let plan = poller::rest::course_of(poller.plan);
     let round = poller.round;
-    poller::core::Core {
+    poller::rest::Core {
         fast: fast,
         slow: slow,
         clock: poller.clock,
@@ -121,7 +123,7 @@ fn core_of(state: State) -> Core
 }
 
 // The desk of its arrays and the rest.
-fn desk_of(replies: [[u8; ROW]; 256], marks: [[bool; 256]; PLACES], core: desk::core::Core) -> Desk
+fn desk_of(replies: [[u8; ROW]; 256], marks: [[bool; 256]; PLACES], core: desk::rest::Core) -> Desk
     ensures { result ≡ desk_of replies marks core }
 {
     let seats = core.clients;
@@ -142,13 +144,13 @@ fn poller_of(
     known: [[bool; 256]; KNOWN],
     order: [u8; ORDER],
     ranges: [[u8; RANGE_ROW]; RANGES],
-    core: poller::core::Core,
+    core: poller::rest::Core,
 ) -> Poller
     ensures { result ≡ poller_of (held polled known order ranges) core }
 {
-    let fast = poller::core::fast(&polled, core.fast);
-    let slow = poller::core::slow(&polled, core.slow);
-    let plan = poller::core::plan(&polled, &known, &order, core.plan);
+    let fast = poller::rest::fast(&polled, core.fast);
+    let slow = poller::rest::slow(&polled, core.slow);
+    let plan = poller::rest::plan(&polled, &known, &order, core.plan);
     let counts = polled[COUNTS];
     let lengths = known[LENGTHS];
     let told = link::ranges::unpack_all(ranges);

@@ -1,5 +1,5 @@
 -- The desk after an ask, and what an ask hands out.
-use Rattle.core.specs.Prelude.{◌≡◌, ℕ, true, not, ◌&&◌, List, ◌==◌}
+use Rattle.std.specs.Prelude.{◌≡◌, ℕ, true, not, ◌&&◌, List, ◌==◌}
 use Rattle.base.specs.Choice.{pick}
 use Rattle.desk.specs.Rules.{registered, fresh, wait_of, stored}
 use Rattle.desk.specs.Sound.{After}

@@ -1,5 +1,5 @@
 -- Each definition of `Rules`, case by case: what the proofs of the functions and of the laws cite.
-use Rattle.core.specs.Prelude.{◌≡◌, ℕ, true, false, ltb, List, [], length, ◌==◌, ◌≢◌, nat_lt, slice_index_or}
+use Rattle.std.specs.Prelude.{◌≡◌, ℕ, true, false, ltb, List, [], length, ◌==◌, ◌≢◌, nat_lt, slice_index_or}
 use Rattle.std.proofs.Math.Path.{refl, ap, sym}
 use Rattle.std.proofs.Common.{◌∙◌, arith}
 use borrow.Author.Tests.{ne_eqb, eqb-true, le-ltb}

@@ -1,5 +1,5 @@
 -- Ask (document 01, "Commands (desk)" and "Client cache"). Collect and give up are `waits`'.
-use Rattle.core.specs.Prelude.{◌≡◌, ℕ, Bool, true, false, not, List, [], ◌∷◌, length, take, replicate, ◌==◌, nat_lt, slice_index_or}
+use Rattle.std.specs.Prelude.{◌≡◌, ℕ, Bool, true, false, not, List, [], ◌∷◌, length, take, replicate, ◌==◌, nat_lt, slice_index_or}
 use Rattle.base.specs.Choice.{pick}
 use Rattle.base.specs.Refusal.{Rows, first_of}
 use Rattle.clients.specs.Rules.{taken_of, waiting_of}

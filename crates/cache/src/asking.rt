@@ -1,5 +1,5 @@
 // Asking the client cache, with the newest replies and the clients' fresh marks lent.
-ghost use Rattle.core.specs.Prelude.{◌≡◌, ℕ, Bool, List, [], length};
+ghost use Rattle.std.specs.Prelude.{◌≡◌, ℕ, Bool, List, [], length};
 ghost use Rattle.clients.specs.Rules.{places};
 ghost use Rattle.desk.specs.Core.{desk_of};
 ghost use Rattle.cache.specs.declared.Step.TheVariants.{ToCache};
@@ -8,13 +8,13 @@ ghost use Rattle.cache.specs.Asking.{not_told, told, asked_in};
 
 use super::{Answer, RANGES, Step};
 use clients::PLACES;
-use desk::core::Core;
+use desk::rest::Core;
 use reply::rows::ROW;
 use reply::{RangeReply, Reply};
 
 // The refusal is document 01's number, 0 where the ask is accepted. The lines' lengths are of the reply that stands at
 // the start of the lent area, none where the answer has no reply.
-#[derive(Drop)]
+#[derive(Clone, Copy)]
 pub struct Told {
     pub core: Core,
     pub refusal: u8,

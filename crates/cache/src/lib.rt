@@ -1,7 +1,9 @@
 // Asking the client cache (the Rust's answer_obd, and get_cached_value up to where it blocks).
+#![tactic(auto)]
+
 pub mod asking;
 
-ghost use Rattle.core.specs.Prelude.{◌≡◌};
+ghost use Rattle.std.specs.Prelude.{◌≡◌};
 ghost use Rattle.cache.specs.Rules.{range_of, range_step, step_of};
 
 use command::Command;
@@ -13,7 +15,7 @@ const RANGES: usize = 8;
 
 // Where a command goes: it is turned down since there is no connection (or the range has no reply), its range
 // reply has no lines, it is not understood, it asks for a stored range reply, or for a PID.
-#[derive(Drop)]
+#[derive(Clone, Copy)]
 pub enum Step {
     Disconnected,
     Empty,
@@ -23,7 +25,7 @@ pub enum Step {
 }
 
 // What an ask is answered. A reading names Consumed of its PID, without a wait, and a wait names Waiting.
-#[derive(Drop)]
+#[derive(Clone, Copy)]
 pub enum Answer {
     // UNABLE TO CONNECT
     Unable,
@@ -38,7 +40,7 @@ pub enum Answer {
 
 // The refusal is document 01's number, 0 where the ask is accepted. The lines' lengths are of the reply that stands at
 // the start of the lent area, none where the answer has no reply.
-#[derive(Drop)]
+#[derive(Clone, Copy)]
 pub struct Asked {
     pub desk: Desk,
     pub refusal: u8,

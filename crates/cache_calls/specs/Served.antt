@@ -1,5 +1,5 @@
 -- What the client cache answers, as the box's answer: refused, the box as it was; accepted, with the desk after it.
-use Rattle.core.specs.Prelude.{◌≡◌, ℕ, Bool, List, length, ◌≢◌}
+use Rattle.std.specs.Prelude.{◌≡◌, ℕ, Bool, List, length, ◌≢◌}
 use Rattle.std.proofs.Math.Path.{ap}
 use Rattle.std.proofs.Common.{◌∙◌, ne_eqb}
 use Rattle.cache.specs.Asking.{asked_in}
@@ -10,7 +10,7 @@ use Rattle.clients.specs.Rules.{idled_of}
 use Rattle.desk.specs.Core.{desk_of}
 use Rattle.desk.specs.Rules.{client_of, put_client}
 use Rattle.desk.specs.declared.Desk.{Desk}
-use Rattle.desk.specs.declared.core.Core.{Core as DeskCore}
+use Rattle.desk.specs.declared.rest.Core.{Core as DeskCore}
 use Rattle.obd2.specs.Call.{ask, collect, give_up}
 use Rattle.obd2.specs.Core.{Lent, with_desk, box_of, answered_of, refusing, accepts, noted, no_notes, refused_is}
 use Rattle.obd2.specs.Done.{ranges, ask_step, cache_by, done_of}
@@ -18,8 +18,8 @@ use Rattle.obd2.specs.History.{refused, accepting}
 use Rattle.obd2.specs.State as state
 use Rattle.obd2.specs.declared.Said.TheVariants.{Asked as SaidAsked, Collected as SaidCollected, GivenUp as SaidGivenUp}
 use Rattle.obd2.specs.declared.State.{State}
-use Rattle.obd2.specs.declared.core.Core.{Core}
-use Rattle.obd2.specs.declared.core.Told.{Told}
+use Rattle.obd2.specs.declared.rest.Core.{Core}
+use Rattle.obd2.specs.declared.rest.Told.{Told}
 use Rattle.report.specs.Summary.{none_in}
 use Rattle.waits.specs.Ending.{collected_in, given_up_in}
 use Rattle.waits.specs.Rules.{collect_refusal, collect_of, collected_of, give_up_refusal, gave_up, give_up_of}

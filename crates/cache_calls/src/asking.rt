@@ -1,4 +1,4 @@
-ghost use Rattle.core.specs.Prelude.{◌≡◌, length};
+ghost use Rattle.std.specs.Prelude.{◌≡◌, length};
 ghost use Rattle.clients.specs.Rules.{places};
 ghost use Rattle.obd2.specs.Call.{ask};
 ghost use Rattle.obd2.specs.Core.{Lent, with_asked, box_of, answered_of};
@@ -8,7 +8,7 @@ ghost use Rattle.obd2.specs.Refusals.{row_refusal};
 
 use clients::PLACES;
 use link::ranges::{RANGE_ROW, RANGES};
-use obd2::core::{Core, Told};
+use obd2::rest::{Core, Told};
 use obd2::{Said, telling};
 use reply::rows::ROW;
 

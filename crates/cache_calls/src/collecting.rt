@@ -1,4 +1,4 @@
-ghost use Rattle.core.specs.Prelude.{◌≡◌, length};
+ghost use Rattle.std.specs.Prelude.{◌≡◌, length};
 ghost use Rattle.clients.specs.Rules.{places};
 ghost use Rattle.obd2.specs.Call.{collect};
 ghost use Rattle.obd2.specs.Core.{Lent, with_desk, box_of, answered_of};
@@ -7,7 +7,7 @@ ghost use Rattle.obd2.specs.History.{lent_by};
 ghost use Rattle.obd2.specs.Refusals.{row_refusal};
 
 use clients::PLACES;
-use obd2::core::{Core, Told};
+use obd2::rest::{Core, Told};
 use obd2::{Said, telling};
 use reply::rows::ROW;
 

@@ -1,9 +1,9 @@
-ghost use Rattle.core.specs.Prelude.{◌≡◌};
+ghost use Rattle.std.specs.Prelude.{◌≡◌};
 ghost use Rattle.obd2.specs.Call.{give_up};
 ghost use Rattle.obd2.specs.Core.{Lent, box_of, answered_of};
 ghost use Rattle.obd2.specs.Answers.{Answers};
 
-use obd2::core::{Core, Told};
+use obd2::rest::{Core, Told};
 use obd2::{Said, telling};
 
 // The client waits no longer, and is answered NO DATA.

@@ -1,10 +1,13 @@
 // Reads one capture from standard input, of any length, and writes its records as lines: history-format.md, "A3, reading a capture
 // back". What is written is the library `capture_stream`; no more is held here than one record.
+#![tactic(auto)]
+
 ghost use Rattle.std.specs.Prelude.{◌&&◌, ◌≡◌, ◌+◌, ◌*◌, ◌≤◌, ltb, length};
 ghost use Rattle.capture_stream.specs.Machine.{owed_for, most_text, part_size, longest_record};
 
 use capture_stream::Reading;
-use libc::{STDIN_FILENO, STDOUT_FILENO};
+use std::io;
+use std::io::{Read, Write};
 
 // The part of the input that is read at a time.
 const INPUT: usize = capture_stream::PART;
@@ -13,7 +16,7 @@ const INPUT: usize = capture_stream::PART;
 const OUTPUT: usize = capture_stream::MOST_OWED + capture_stream::MOST_TEXT * INPUT;
 
 // The reading after a part of the input, whether it goes on, and whether the input has ended.
-#[derive(Drop)]
+#[derive(Clone, Copy)]
 struct Turn {
     reading: Reading,
     more: bool,
@@ -21,9 +24,12 @@ struct Turn {
 }
 
 // Writes so many bytes, and tells whether it could.
-fn flush(written: usize, out: &[u8]) -> bool {
+fn flush<W: Write>(written: usize, out: &[u8], writer: &mut W) -> bool {
     let n = base::least(written, out.len());
-    io::write_all(STDOUT_FILENO, &out[..n])
+    match writer.write_all(&out[..n]) {
+        Ok(()) => true,
+        Err(_) => false,
+    }
 }
 
 // Whether it was written, and some of the input used.
@@ -34,13 +40,19 @@ fn went_on(wrote: bool, used: usize) -> bool
 }
 
 // Feeds a part of the input. It goes on unless nothing can be written any more, or counted in 64 bits.
-fn feed_part(reading: Reading, input: &[u8], hold: &mut [u8], out: &mut [u8]) -> Turn {
+fn feed_part<W: Write>(
+    reading: Reading,
+    input: &[u8],
+    hold: &mut [u8],
+    out: &mut [u8],
+    writer: &mut W,
+) -> Turn {
     let mut current = reading;
     let mut more = true;
     let mut at = 0;
     while more && at < input.len() {
         let fed = capture_stream::feed(current, hold, &input[at..], out);
-        more = went_on(flush(fed.written, out), fed.used);
+        more = went_on(flush(fed.written, out, writer), fed.used);
         current = fed.reading;
         at += fed.used;
     }
@@ -51,49 +63,62 @@ fn feed_part(reading: Reading, input: &[u8], hold: &mut [u8], out: &mut [u8]) ->
     }
 }
 
-fn read_part(reading: Reading, hold: &mut [u8], out: &mut [u8]) -> Turn {
+fn read_part<R: Read, W: Write>(
+    reading: Reading,
+    hold: &mut [u8],
+    out: &mut [u8],
+    reader: &mut R,
+    writer: &mut W,
+) -> io::Result<Turn> {
     let mut input = [0u8; INPUT];
-    let got = libc::read(STDIN_FILENO, &mut input);
-    let n = io::count(got, &input);
+    let n = reader.read(&mut input)?;
     if n == 0 {
-        return Turn {
+        return Ok(Turn {
             reading,
             more: false,
             ended: true,
-        };
+        });
     }
-    feed_part(reading, &input[..n], hold, out)
+    Ok(feed_part(reading, &input[..n], hold, out, writer))
 }
 
 // The last line, where the input has ended: behind a line that could not be written there is none.
-fn finish(turn: Turn, out: &mut [u8]) {
+fn finish<W: Write>(turn: Turn, out: &mut [u8], writer: &mut W) {
     if turn.ended {
         let n = capture_stream::finish(turn.reading, out);
-        flush(n, out);
+        flush(n, out, writer);
     }
 }
 
 // A proved loop has to end, and nothing says that an input does: the turns are counted down from a number that no run uses up. The
-// memory is what `fed-output` of crates/capture_stream/specs/Used.antt asks for.
-fn run(hold: &mut [u8], out: &mut [u8])
+// memory is what `fed_output` of crates/capture_stream/specs/Used.antt asks for.
+fn run<R: Read, W: Write>(
+    hold: &mut [u8],
+    out: &mut [u8],
+    reader: &mut R,
+    writer: &mut W,
+) -> io::Result<()>
     requires longest_record_in_bounds { longest_record ≤ length hold.old }
     requires part_size_in_bounds { owed_for longest_record + most_text * part_size ≤ length out.old }
 {
     let mut reading = capture_stream::start();
     let mut turns = u64::MAX;
     while turns > 0 {
-        let turn = read_part(reading, hold, out);
+        let turn = read_part(reading, hold, out, reader, writer)?;
         reading = turn.reading;
         if !turn.more {
-            finish(turn, out);
-            return;
+            finish(turn, out, writer);
+            return Ok(());
         }
         turns -= 1;
     }
+    Ok(())
 }
 
-fn main() {
+fn main(rt: HostRuntime) -> io::Result<()> {
+    let mut reader = rt.stdin();
+    let mut writer = rt.stdout();
     let mut hold = [0u8; capture_stream::HOLD];
     let mut out = [0u8; OUTPUT];
-    run(&mut hold, &mut out);
+    run(&mut hold, &mut out, &mut reader, &mut writer)
 }

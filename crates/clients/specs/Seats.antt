@@ -6,7 +6,7 @@ use Rattle.std.proofs.lemmas.List.{length-replicate}
 use Rattle.base.specs.Choice.{pick}
 use Rattle.base.specs.Each.{each_of, each_step}
 use Rattle.base.specs.Search.{Search}
-use Rattle.clients.specs.Rules.{places, idle, nobody, newcomer, place_of, seat_of, marked_of, taken_of, waiting_of, idled_of}
+use Rattle.clients.specs.Rules.{places, idle, nobody, newcomer, place_of, seat_of, marked_of, taken_of}
 use Rattle.clients.specs.declared.Client.{Client}
 use Rattle.clients.specs.declared.seats.Seat.{Seat}
 

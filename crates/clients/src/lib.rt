@@ -1,4 +1,6 @@
 // The clients that are registered: eight places, each with a client's number, wait and fresh marks.
+#![tactic(auto)]
+
 pub mod seats;
 
 ghost use Rattle.std.specs.Prelude.{◌≡◌};
@@ -8,7 +10,7 @@ ghost use Rattle.clients.specs.Rules.{newcomer};
 pub const PLACES: usize = 8;
 
 // What a client waits for: a PID, since a time. A client waits for one PID at a time.
-#[derive(Drop)]
+#[derive(Clone, Copy)]
 pub struct Wait {
     pub waiting: bool,
     pub pid: u8,
@@ -16,7 +18,7 @@ pub struct Wait {
 }
 
 // A number of 0 is a free place. A mark says that a reply for the PID came that this client was not handed yet.
-#[derive(Drop)]
+#[derive(Clone, Copy)]
 pub struct Client {
     pub number: u32,
     pub wait: Wait,

@@ -6,7 +6,7 @@ ghost use Rattle.clients.specs.Seats.{seated, seat_in, marks_in, new_seat, no_ma
 use super::{Client, PLACES, Wait};
 
 // A number of 0 is a free place.
-#[derive(Drop)]
+#[derive(Clone, Copy)]
 pub struct Seat {
     pub number: u32,
     pub wait: Wait,

@@ -1,9 +1,11 @@
 // What the bytes of a client's command ask for: the command part of obd2.rs, with J1979 and the ELM327
 // datasheet deciding what a mode 01 command is.
+#![tactic(auto)]
+
 ghost use Rattle.std.specs.Prelude.{◌≡◌};
 ghost use Rattle.command.specs.Classify.{same_text, index_of, range_texts, stripped, pid_of, command_of, values_of};
 
-#[derive(Drop)]
+#[derive(Clone, Copy)]
 pub enum Command {
     // one of the eight queries for the supported PIDs, 0 to 7
     Range(u8),

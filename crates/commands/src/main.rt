@@ -1,49 +1,62 @@
 // Reads lines from standard input and writes each with its class and its number. All of what is written
 // is decided by the library `transcript`; here is only the reading and the writing.
-use libc::{STDIN_FILENO, STDOUT_FILENO};
+#![tactic(auto)]
+
+use std::io;
+use std::io::{Read, Write};
 use transcript::Line;
 
-#[derive(Drop)]
+// The part of the input that is read at a time.
+const INPUT: usize = 4096;
+
+// Nine bytes of room for each that is read are what `feed` asks.
+const OUTPUT: usize = 36864;
+
+#[derive(Clone, Copy)]
 struct Turn {
     line: Line,
     more: bool,
 }
 
-// Reads once and writes what that gives. Nine bytes of room for each that is read are what `feed` asks.
-fn copy_some(line: Line) -> Turn {
-    let mut input = io::buffer();
-    let mut out = [0u8; 36864];
-    let got = libc::read(STDIN_FILENO, &mut input);
-    let n = io::count(got, &input);
+// Reads once and writes what that gives.
+fn copy_some<R: Read, W: Write>(line: Line, reader: &mut R, writer: &mut W) -> io::Result<Turn> {
+    let mut input = [0u8; INPUT];
+    let mut out = [0u8; OUTPUT];
+    let n = reader.read(&mut input)?;
     if n == 0 {
-        return Turn { line, more: false };
+        return Ok(Turn { line, more: false });
     }
     let fed = transcript::feed(line, &input[..n], &mut out);
     let written = fed.written;
     let next = fed.line;
-    let more = io::write_all(STDOUT_FILENO, &out[..written]);
-    Turn { line: next, more }
+    writer.write_all(&out[..written])?;
+    Ok(Turn {
+        line: next,
+        more: true,
+    })
 }
 
-fn write_last(line: Line) {
+fn write_last<W: Write>(line: Line, writer: &mut W) -> io::Result<()> {
     let last = transcript::finish(line);
     let bytes = last.bytes;
     let n = last.len;
-    io::write_all(STDOUT_FILENO, &bytes[..n]);
+    writer.write_all(&bytes[..n])
 }
 
 // A proved loop has to end, and nothing says that an input does: the turns are counted down from a number
 // that no run uses up.
-fn main() {
+fn main(rt: HostRuntime) -> io::Result<()> {
+    let mut reader = rt.stdin();
+    let mut writer = rt.stdout();
     let mut line = transcript::start();
     let mut turns = u64::MAX;
     while turns > 0 {
-        let turn = copy_some(line);
+        let turn = copy_some(line, &mut reader, &mut writer)?;
         line = turn.line;
         if !turn.more {
             break;
         }
         turns -= 1;
     }
-    write_last(line);
+    write_last(line, &mut writer)
 }

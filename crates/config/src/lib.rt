@@ -1,17 +1,19 @@
 // Settings, profiles and priorities, with the defaults of the Rust's config.rs.
+#![tactic(auto)]
+
 ghost use Rattle.std.specs.Prelude.{◌≡◌};
 ghost use Rattle.config.specs.Blank.{no_profiles};
 ghost use Rattle.config.specs.Defaults.{default_settings};
 
 // How often a PID is polled: from the fast list or from the slow one.
-#[derive(Drop)]
+#[derive(Clone, Copy)]
 pub enum PidPriority {
     Fast,
     Slow,
 }
 
 // Times are whole milliseconds. Beside each field stands its name in config.rs.
-#[derive(Drop)]
+#[derive(Clone, Copy)]
 pub struct Settings {
     // slow_poll_mode: 0 Interval, 1 Ratio. A number and no enum, since a caller may hand in an
     // unknown one, which the box refuses.
@@ -33,7 +35,7 @@ pub struct Settings {
 }
 
 // What a profile of lights asks of the poller (the Rust's LedProfile).
-#[derive(Drop)]
+#[derive(Clone, Copy)]
 pub struct Profile {
     // 0 the active normal profile, 1 an overlay, 2 a triggered one; the box refuses other numbers
     pub kind: u8,
@@ -47,7 +49,7 @@ pub struct Profile {
 }
 
 // The profiles in force: the first `count` of `list`. A count above 16 is a list that the box refuses.
-#[derive(Drop)]
+#[derive(Clone, Copy)]
 pub struct Profiles {
     pub list: [Profile; 16],
     pub count: u8,

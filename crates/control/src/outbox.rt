@@ -6,13 +6,13 @@ use crate::DongleMessage;
 use config::PidPriority;
 
 // A message in a struct of its own, so that an array can hold it.
-#[derive(Drop)]
+#[derive(Clone, Copy)]
 pub struct Slot {
     pub message: DongleMessage,
 }
 
 // The first `count` of `slots`. No call sends more than 257.
-#[derive(Drop)]
+#[derive(Clone, Copy)]
 pub struct Outbox {
     pub slots: [Slot; 257],
     pub count: u16,

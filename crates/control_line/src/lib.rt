@@ -1,5 +1,7 @@
 // The control line: the messages that the manager has sent and the poller has not taken yet, in 1,024 places
 // that are reused (the Rust's channel between the two tasks).
+#![tactic(auto)]
+
 pub mod places;
 
 ghost use Rattle.std.specs.Prelude.{◌≡◌, min};
@@ -10,20 +12,20 @@ use control::outbox::Slot;
 
 // `count` messages from the place `head` on, behind the last place from the first. A count above 1,024 counts
 // as 1,024.
-#[derive(Drop)]
+#[derive(Clone, Copy)]
 pub struct ControlLine {
     pub slots: [Slot; 1024],
     pub head: u16,
     pub count: u16,
 }
 
-#[derive(Drop)]
+#[derive(Clone, Copy)]
 pub enum Taken {
     Message(DongleMessage),
     Nothing,
 }
 
-#[derive(Drop)]
+#[derive(Clone, Copy)]
 pub struct Shorter {
     pub line: ControlLine,
     pub taken: Taken,

@@ -15,13 +15,13 @@ pub const PLACES: usize = 1024;
 
 // Where the messages begin, and how many they are. A count above 1,024 counts as 1,024.
 
-#[derive(Drop)]
+#[derive(Clone, Copy)]
 pub struct Ends {
     pub head: u16,
     pub count: u16,
 }
 
-#[derive(Drop)]
+#[derive(Clone, Copy)]
 pub struct Shorter {
     pub ends: Ends,
     pub taken: Taken,

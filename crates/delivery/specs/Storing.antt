@@ -7,7 +7,7 @@ use Rattle.config.specs.declared.Profiles.{Profiles}
 use Rattle.desk.specs.Core.{desk_of}
 use Rattle.desk.specs.declared.Desk.{Desk}
 use Rattle.desk.specs.declared.Revs.{Revs}
-use Rattle.desk.specs.declared.core.Core.{Core}
+use Rattle.desk.specs.declared.rest.Core.{Core}
 use Rattle.reply.specs.Rows.{reply_in, stored_set}
 use Rattle.reply.specs.declared.Response.{Response}
 use Rattle.delivery.specs.Rules.{unfit, deliver_of, pid_at, reply_at, value_at, turn_of, response_of}

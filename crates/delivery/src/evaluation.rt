@@ -11,7 +11,7 @@ use desk::Revs;
 use reply::Response;
 
 // For each PID of the response its value, and whether a notice goes out since a profile was switched off.
-#[derive(Drop)]
+#[derive(Clone, Copy)]
 pub struct Evaluated {
     pub revs: Revs,
     pub profiles: Profiles,

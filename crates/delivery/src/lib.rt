@@ -1,4 +1,6 @@
 // What a response of the dongle does (the Rust's update_client_caches, and what its caller makes of each reply).
+#![tactic(auto)]
+
 pub mod evaluation;
 pub mod storing;
 
@@ -14,7 +16,7 @@ use reply::Response;
 const RPM: u8 = 0x0C;
 
 // For each PID of the response its value, and whether a notice goes out since a profile was switched off.
-#[derive(Drop)]
+#[derive(Clone, Copy)]
 pub struct Answered {
     pub desk: Desk,
     pub profiles: Profiles,

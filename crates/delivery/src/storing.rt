@@ -3,7 +3,7 @@ ghost use Rattle.std.specs.Prelude.{◌≡◌, length};
 ghost use Rattle.clients.specs.Rules.{places};
 ghost use Rattle.config.specs.declared.Profiles.{Profiles};
 ghost use Rattle.desk.specs.Core.{desk_of};
-ghost use Rattle.desk.specs.declared.core.Core.{Core};
+ghost use Rattle.desk.specs.declared.rest.Core.{Core};
 ghost use Rattle.delivery.specs.Rules.{response_of};
 ghost use Rattle.delivery.specs.Storing.{Held};
 

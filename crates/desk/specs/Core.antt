@@ -10,7 +10,7 @@ use Rattle.reply.specs.Rows.{store_of, blank_rows, unknown_replies, stored_blank
 use Rattle.desk.specs.Rules.{no_revs, start_desk, with_clients, with_given, put_client, entered}
 use Rattle.desk.specs.Cases.{put_at}
 use Rattle.desk.specs.declared.Desk.{Desk}
-use Rattle.desk.specs.declared.core.Core.{Core}
+use Rattle.desk.specs.declared.rest.Core.{Core}
 
 -- THE DESK that lent replies, lent marks and the rest are.
 abbrev pub desk_of : List (List ℕ) → List (List Bool) → Core → Desk

@@ -10,7 +10,7 @@ use Rattle.desk.specs.Rules.{registered, client_of, fresh, wait_of, stored, put_
 use Rattle.desk.specs.Cases.{seat_taken, seat_missing, seat_client, seat_wait, seat_fresh, seat_put}
 use Rattle.desk.specs.Core.{desk_of, with_seats, held_seat, held_client, put_seat, put_marks, put_both}
 use Rattle.desk.specs.declared.Desk.{Desk}
-use Rattle.desk.specs.declared.core.Core.{Core}
+use Rattle.desk.specs.declared.rest.Core.{Core}
 
 -- The newest reply of a PID, out of its row.
 pub held_reply : (replies : List (List ℕ)) (marks : List (List Bool)) (k : Core) (p : ℕ) → reply_in (get_or replies p []) ≡ stored (desk_of replies marks k) p

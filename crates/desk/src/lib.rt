@@ -1,11 +1,13 @@
 // The desk's state: the clients, and the newest reply of each PID.
-pub mod core;
+#![tactic(auto)]
+
+pub mod rest;
 
 use clients::Client;
 use reply::Reply;
 
 // The engine's revs (the Rust's shared_rpm), once a reply for PID 0Ch came.
-#[derive(Drop)]
+#[derive(Clone, Copy)]
 pub struct Revs {
     pub known: bool,
     pub value: u32,
@@ -13,7 +15,7 @@ pub struct Revs {
 
 // Each response goes to every registered client, so the newest reply of a PID stands once, for all of them;
 // each client's marks say whether that client was handed it.
-#[derive(Drop)]
+#[derive(Clone, Copy)]
 pub struct Desk {
     pub clients: [Client; clients::PLACES],
     pub store: [Reply; 256],
@@ -22,7 +24,7 @@ pub struct Desk {
 }
 
 // The number is 0 where the call is refused.
-#[derive(Drop)]
+#[derive(Clone, Copy)]
 pub struct Registered {
     pub desk: Desk,
     pub refusal: u8,

@@ -1,5 +1,5 @@
 -- What the desk's functions say, as the box's definitions have it.
-use Rattle.core.specs.Prelude.{◌≡◌, ℕ, ◌+◌}
+use Rattle.std.specs.Prelude.{◌≡◌, ℕ, ◌+◌}
 use Rattle.std.proofs.Math.Path.{ap}
 use Rattle.std.proofs.Common.{◌∙◌}
 use Rattle.base.specs.Refusal.{first_of}
@@ -14,7 +14,7 @@ use Rattle.delivery.specs.declared.evaluation.Evaluated.{Evaluated}
 use Rattle.desk.specs.Core.{desk_of}
 use Rattle.desk.specs.Rules.{register_refusal, register_of, entered}
 use Rattle.desk.specs.declared.Desk.{Desk}
-use Rattle.desk.specs.declared.core.Core.{Core as DeskCore}
+use Rattle.desk.specs.declared.rest.Core.{Core as DeskCore}
 use Rattle.obd2.specs.Call.{Register, Respond}
 use Rattle.manager.specs.Rows.{manager_of}
 use Rattle.manager.specs.declared.rows.Core.{Core as ManagerCore}
@@ -26,8 +26,8 @@ use Rattle.obd2.specs.State.{delivering}
 use Rattle.obd2.specs.declared.Answered.{Answered}
 use Rattle.obd2.specs.declared.Said.TheVariants.{Done, Client}
 use Rattle.obd2.specs.declared.State.{State}
-use Rattle.obd2.specs.declared.core.Core.{Core}
-use Rattle.obd2.specs.declared.core.Told.{Told}
+use Rattle.obd2.specs.declared.rest.Core.{Core}
+use Rattle.obd2.specs.declared.rest.Told.{Told}
 use Rattle.poller.specs.Core.{poller_of}
 use Rattle.report.specs.Summary.{report_in}
 use Rattle.report.specs.declared.summary.Summary.{Summary}

@@ -1,4 +1,4 @@
-ghost use Rattle.core.specs.Prelude.{◌≡◌, ℕ, false, List, length};
+ghost use Rattle.std.specs.Prelude.{◌≡◌, ℕ, false, List, length};
 ghost use Rattle.clients.specs.Rules.{places};
 ghost use Rattle.obd2.specs.Call.{leave};
 ghost use Rattle.obd2.specs.Core.{lent, box_of, answered_of};
@@ -7,7 +7,7 @@ ghost use Rattle.poller.specs.Core.{Held};
 
 use clients::PLACES;
 use manager::Event;
-use obd2::core::{Core, Told};
+use obd2::rest::{Core, Told};
 use obd2::{Said, telling};
 use passes::Terms;
 
@@ -61,7 +61,7 @@ pub fn leave(
         return telling::refuse(core, 15);
     }
     let desk = core.desk;
-    let after = desk::core::leave(marks, desk, number);
+    let after = desk::rest::leave(marks, desk, number);
     core.desk = after;
     let summary = sent.summary;
     let notes = telling::reporting(summary);

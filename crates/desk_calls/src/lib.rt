@@ -1,5 +1,7 @@
 // The box's calls of the desk that also let the manager do maintenance: register, leave and response. A refused call
 // leaves the box as it was. The time is not tested here: `dispatch::call` does that before, and is the box's door.
+#![tactic(auto)]
+
 mod leaving;
 mod registering;
 mod responding;

@@ -1,4 +1,4 @@
-ghost use Rattle.core.specs.Prelude.{◌≡◌, ℕ, false, List, length};
+ghost use Rattle.std.specs.Prelude.{◌≡◌, ℕ, false, List, length};
 ghost use Rattle.clients.specs.Rules.{places};
 ghost use Rattle.obd2.specs.Call.{register};
 ghost use Rattle.obd2.specs.Core.{lent, box_of, answered_of};
@@ -7,7 +7,7 @@ ghost use Rattle.poller.specs.Core.{Held};
 
 use clients::PLACES;
 use manager::Event;
-use obd2::core::{Core, Told};
+use obd2::rest::{Core, Told};
 use obd2::{Said, telling};
 use passes::Terms;
 
@@ -34,7 +34,7 @@ pub fn register(
     ensures by_index { (replies : List (List ℕ)) (polling : Held) → Answers (box_of (lent replies marks.old table.old slots.old polling pids.old rates.old) core) (register time) (answered_of (lent replies marks.new table.new slots.new polling pids.new rates.new) result) }
 {
     let desk = core.desk;
-    let number = desk::core::refusal(desk);
+    let number = desk::rest::refusal(desk);
     if number != 0 {
         return telling::refuse(core, number);
     }
@@ -64,7 +64,7 @@ pub fn register(
     if sent.refused {
         return telling::refuse(core, 15);
     }
-    let entered = desk::core::register(marks, desk);
+    let entered = desk::rest::register(marks, desk);
     core.desk = entered;
     let summary = sent.summary;
     let notes = telling::reporting(summary);

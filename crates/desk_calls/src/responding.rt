@@ -1,4 +1,4 @@
-ghost use Rattle.core.specs.Prelude.{◌≡◌, false, length};
+ghost use Rattle.std.specs.Prelude.{◌≡◌, false, length};
 ghost use Rattle.clients.specs.Rules.{places};
 ghost use Rattle.obd2.specs.Call as call;
 ghost use Rattle.obd2.specs.Core.{lent, box_of, answered_of};
@@ -7,7 +7,7 @@ ghost use Rattle.poller.specs.Core.{Held};
 
 use clients::PLACES;
 use manager::Event;
-use obd2::core::{Core, Told};
+use obd2::rest::{Core, Told};
 use obd2::{Said, telling};
 use passes::Terms;
 use reply::Response;

@@ -1,5 +1,5 @@
 -- A call as it is handed to the box, as a call of the histories that demand 3 speaks of.
-use Rattle.core.specs.Prelude.{◌≡◌, ℕ, Bool, true, false, ◌&&◌, List, [], length, ◌==◌}
+use Rattle.std.specs.Prelude.{◌≡◌, ℕ, Bool, true, false, ◌&&◌, List, [], length, ◌==◌}
 use Rattle.base.specs.Choice.{pick}
 use Rattle.obd2.specs.Answers.{Tells}
 use Rattle.clients.specs.Rules.{places}
@@ -13,7 +13,7 @@ use Rattle.obd2.specs.declared.State.{State}
 use Rattle.obd2.specs.declared.call.Call.{Call}
 use Rattle.obd2.specs.declared.call.Call.TheVariants.{Register, Leave, Ask, Collect, GiveUp, Response, ProfilePidsChanged, Waiting, Consumed, Tick, SetSettings, TakeControl, Connect, ConnectFailed, ReconnectCheck, Begin, Next, Result}
 use Rattle.obd2.specs.declared.call.Brought.{Brought}
-use Rattle.obd2.specs.declared.core.Told.{Told}
+use Rattle.obd2.specs.declared.rest.Told.{Told}
 use Rattle.poller.specs.Core.{polled_rows, known_rows}
 
 -- Lent arrays as long as their types say.

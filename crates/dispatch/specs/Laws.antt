@@ -1,5 +1,5 @@
 -- A call is what the match on it found, and with the test of its time it is a step of the box.
-use Rattle.core.specs.Prelude.{◌≡◌, ℕ, true, false, List, [], ◌==◌}
+use Rattle.std.specs.Prelude.{◌≡◌, ℕ, true, false, List, [], ◌==◌}
 use Rattle.std.proofs.Math.Bool.{and-false}
 use Rattle.std.proofs.Common.{ap, ◌∙◌}
 use Rattle.std.proofs.Math.Path.{sym}

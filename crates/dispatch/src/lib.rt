@@ -1,5 +1,7 @@
 // One function for every call of the box: what runs is what the histories of demand 3 speak of.
-ghost use Rattle.core.specs.Prelude.{◌≡◌};
+#![tactic(auto)]
+
+ghost use Rattle.std.specs.Prelude.{◌≡◌};
 ghost use Rattle.obd2.specs.Core.{lent, box_of, answered_of};
 ghost use Rattle.obd2.specs.History.{step};
 ghost use Rattle.poller.specs.Core.{held};
@@ -9,9 +11,9 @@ use clients::PLACES;
 use link::ranges::{RANGE_ROW, RANGES};
 use manager::Event;
 use obd2::call::{Brought, Call};
-use obd2::core::{Core, Told};
+use obd2::rest::{Core, Told};
 use obd2::{answers, telling};
-use poller::core::{KNOWN, ORDER, POLLED};
+use poller::rest::{KNOWN, ORDER, POLLED};
 use reply::rows::ROW;
 
 // Applies one call, at a time, to the box: the one place that tests the time. Only this function has all of the box's arrays;

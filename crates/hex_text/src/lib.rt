@@ -1,4 +1,6 @@
 // Bytes as pairs of hex digits, read in either letter case and written in upper case.
+#![tactic(auto)]
+
 ghost use Rattle.std.specs.Prelude.{true, ◌≡◌, ◌/◌, ◌≤◌, length};
 ghost use Rattle.base.specs.Write.{over};
 ghost use Rattle.text.specs.Put.{put_of, put_end};
@@ -7,14 +9,14 @@ ghost use Rattle.hex_text.specs.Pairs.{pid_of, is_pairs, pairs, bytes_of, read_o
 // How many bytes are read before they are put in the place of their pairs.
 const BLOCK: usize = 64;
 
-#[derive(Drop)]
+#[derive(Clone, Copy)]
 pub enum Byte {
     Value(u8),
     Bad,
 }
 
 // How many bytes a text stands for.
-#[derive(Drop)]
+#[derive(Clone, Copy)]
 pub enum Bytes {
     Count(usize),
     Bad,
@@ -23,7 +25,7 @@ pub enum Bytes {
 }
 
 // How many bytes stand in a text's own place for it.
-#[derive(Drop)]
+#[derive(Clone, Copy)]
 pub enum Turned {
     Count(usize),
     Bad,
@@ -133,7 +135,7 @@ fn copy(s: &[u8], out: &mut [u8]) -> Bytes
     if out.len() < s.len() {
         return Bytes::Short;
     }
-    bytes::copy(s, out);
+    base::copy(s, out);
     Bytes::Count(s.len())
 }
 

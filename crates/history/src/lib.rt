@@ -1,7 +1,9 @@
 // A line of a history as a call of the box: history-format.md, "Calls of the box". Empty lines, comments and
 // lines that are too long are not handed in here. A line is read in two stages: `parse` tells what it is, and what it
 // brings is read by the functions of `brought`, for those lines alone that bring a list. What both come to is
-// `two-stages` of specs/.
+// `two_stages` of specs/.
+#![tactic(auto)]
+
 ghost use Rattle.std.specs.Prelude.{◌≡◌, length};
 ghost use Rattle.history_items.specs.Items.{split_of, items_of};
 ghost use Rattle.history.specs.Lines.{nothing_brought, untimed_of, line_of, lent_of};

@@ -1,12 +1,12 @@
 -- 4,096 bytes have room for the answer line of every call.
-use Rattle.core.specs.Prelude.{◌≡◌, ℕ, ◌+◌, ◌≤◌, List, length}
+use Rattle.std.specs.Prelude.{◌≡◌, ℕ, ◌+◌, ◌≤◌, List, length}
 use Rattle.std.proofs.Common.{arith}
 use Rattle.std.proofs.Math.ListN.{length-append}
 use Rattle.base.specs.Write.{over}
 use Rattle.obd2.specs.Core.{Lent, details_of}
 use Rattle.obd2.specs.declared.Answer.{Answer}
 use Rattle.obd2.specs.declared.Details.{Details}
-use Rattle.obd2.specs.declared.core.Notes.{Notes}
+use Rattle.obd2.specs.declared.rest.Notes.{Notes}
 use Rattle.reply.specs.declared.Response.{Response}
 use Rattle.writing.specs.Fill.{fill_of, fill_end, fill_fits, end_fits}
 use Rattle.history_answer.specs.Texts.{answer_text}

@@ -1,5 +1,5 @@
 -- The answer lines of the box's calls: history-format.md, "Calls of the box and their answers".
-use Rattle.core.specs.Prelude.{ℕ, List, ◌++◌}
+use Rattle.std.specs.Prelude.{ℕ, List, ◌++◌}
 use Rattle.base.specs.Letters.{letters}
 use Rattle.obd2.specs.declared.Answer.{Answer}
 use Rattle.obd2.specs.declared.Details.{Details}

@@ -1,13 +1,15 @@
 // The answer lines of the box's calls, as history-format.md has them, written into lent memory as far as there is
 // room.
-ghost use Rattle.core.specs.Prelude.{◌≡◌, [], length};
+#![tactic(auto)]
+
+ghost use Rattle.std.specs.Prelude.{◌≡◌, [], length};
 ghost use Rattle.obd2.specs.Core.{lent, details_of};
 ghost use Rattle.poller.specs.Core.{held};
 ghost use Rattle.writing.specs.Fill.{fill_of, fill_end};
 ghost use Rattle.history_answer.specs.Texts.{answer_text, bad_text};
 
 use obd2::Answer;
-use obd2::core::Notes;
+use obd2::rest::Notes;
 use reply::Response;
 
 // The answer line of a call, from the place `at` on; the place behind it. `delivered` is the response that the

@@ -15,13 +15,13 @@ use obd2::call::Call;
 use rounds::{Kind, Outcome};
 
 // A list with a bad token is bad, and empty then.
-#[derive(Drop)]
+#[derive(Clone, Copy)]
 pub struct SessionRead {
     pub session: Session,
     pub good: bool,
 }
 
-#[derive(Drop)]
+#[derive(Clone, Copy)]
 pub struct OutcomeRead {
     pub outcome: Outcome,
     pub good: bool,

@@ -1,5 +1,7 @@
 // What a line says behind its word and its time: history-format.md, "Calls of the box". A line that brings a list is
 // told first; what it brings is read after that, by `bringing`.
+#![tactic(auto)]
+
 ghost use Rattle.std.specs.Prelude.{◌≡◌, length};
 ghost use Rattle.history_items.specs.Items.{items_of};
 ghost use Rattle.history_calls.specs.Timed.{timed_line, timed_bytes};
@@ -12,7 +14,7 @@ use obd2::call::Call;
 pub mod bringing;
 mod plain;
 
-#[derive(Drop)]
+#[derive(Clone, Copy)]
 pub enum Line {
     // it does not follow the page
     Bad,

@@ -1,5 +1,7 @@
 // What a connection and a result tell of the dongle and its PIDs, as lists of tokens: eight RANGEs; LEARNT... A list
 // with a bad token is bad, and empty then.
+#![tactic(auto)]
+
 ghost use Rattle.std.specs.Prelude.{◌≡◌, ◌<◌};
 ghost use Rattle.history_items.specs.Items.{items_of};
 ghost use Rattle.history_dongle.specs.Lists.{no_learnt, range_onto, learnt_onto, empty_ranges, ranges_of, no_lessons, learnts_of};
@@ -9,7 +11,7 @@ use reply::RangeReply;
 use rounds::Learnt;
 
 // The ranges, and how many tokens there are.
-#[derive(Drop)]
+#[derive(Clone, Copy)]
 pub struct RangesRead {
     pub ranges: [RangeReply; 8],
     pub count: usize,
@@ -17,7 +19,7 @@ pub struct RangesRead {
 }
 
 // What a result teaches, and of how many PIDs it says something.
-#[derive(Drop)]
+#[derive(Clone, Copy)]
 pub struct LearntRead {
     pub learnt: [Learnt; 6],
     pub count: usize,

@@ -1,5 +1,7 @@
 // Items of a list, each behind a byte that parts it from what stands before: the tokens behind a line's word,
 // the lines of a reply.
+#![tactic(auto)]
+
 ghost use Rattle.std.specs.Prelude.{◌≡◌};
 ghost use Rattle.history_items.specs.Items.{end_of, more_of};
 

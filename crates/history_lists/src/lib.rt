@@ -1,5 +1,7 @@
 // Profiles and replies that calls bring, as lists of tokens: a text of tokens, each behind a space. More than the box
 // takes are counted all the same, so that it can refuse them. A list with a bad token is bad, and empty then.
+#![tactic(auto)]
+
 ghost use Rattle.std.specs.Prelude.{◌≡◌};
 ghost use Rattle.history_items.specs.Items.{items_of};
 ghost use Rattle.history_lists.specs.Lists.{no_response, profile_onto, reply_onto, profiles_of, response_of};
@@ -8,13 +10,13 @@ use config::{Profile, Profiles};
 use history_wishes::ProfileToken;
 use reply::{MAX_PIDS, Reply, Response};
 
-#[derive(Drop)]
+#[derive(Clone, Copy)]
 pub struct ProfilesRead {
     pub profiles: Profiles,
     pub good: bool,
 }
 
-#[derive(Drop)]
+#[derive(Clone, Copy)]
 pub struct ResponseRead {
     pub response: Response,
     pub good: bool,

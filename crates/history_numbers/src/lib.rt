@@ -1,5 +1,7 @@
 // Numbers of fewer than 64 bits, choices, and numbers that may be missing, as history-format.md has them. A token that
 // does not follow its form, or has a number that does not fit its field, is bad.
+#![tactic(auto)]
+
 ghost use Rattle.std.specs.Prelude.{◌≡◌};
 ghost use Rattle.history_numbers.specs.Numbers.{is_none, byte_of, word32_of, flag_of, threshold_of, wait_of, ecu_of};
 
@@ -7,27 +9,27 @@ use hex_text::Byte;
 use numeral::Number;
 use pid_table::WaitDuration;
 
-#[derive(Drop)]
+#[derive(Clone, Copy)]
 pub enum Word32 {
     Value(u32),
     Bad,
 }
 
 // 0 or 1, as a test.
-#[derive(Drop)]
+#[derive(Clone, Copy)]
 pub enum FlagToken {
     Value(bool),
     Bad,
 }
 
 // A profile's THRESHOLD: whether there is one, and the threshold, 0 where there is none.
-#[derive(Drop)]
+#[derive(Clone, Copy)]
 pub enum ThresholdToken {
     Value { limited: bool, threshold: u32 },
     Bad,
 }
 
-#[derive(Drop)]
+#[derive(Clone, Copy)]
 pub enum WaitToken {
     Value(WaitDuration),
     Bad,

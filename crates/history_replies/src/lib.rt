@@ -1,5 +1,7 @@
 // The lines of a REPLY and of a RANGE. More lines and bytes than a reply holds are counted all the same, so
 // that the box can refuse them: a count stops at 255.
+#![tactic(auto)]
+
 ghost use Rattle.std.specs.Prelude.{◌≡◌, ◌≤◌};
 ghost use Rattle.history_replies.specs.Replies.{placed_of, filled_of, short_of, count_line, added_of, lines_of, no_pid, is_lines, reply_of, empty_range, range_of};
 
@@ -7,35 +9,35 @@ use hex_text::{Byte, Bytes};
 use reply::{MAX_BYTES, MAX_LINES, RangeReply, Reply};
 
 // The lines' reply, an empty one where the token is bad.
-#[derive(Drop)]
+#[derive(Clone, Copy)]
 pub struct ReplyToken {
     pub reply: Reply,
     pub good: bool,
 }
 
 // A PID and its reply.
-#[derive(Drop)]
+#[derive(Clone, Copy)]
 pub struct PidToken {
     pub reply: Reply,
     pub pid: u8,
     pub good: bool,
 }
 
-#[derive(Drop)]
+#[derive(Clone, Copy)]
 pub struct RangeToken {
     pub range: RangeReply,
     pub good: bool,
 }
 
 // The bytes of a reply after a line that had room or had none.
-#[derive(Drop)]
+#[derive(Clone, Copy)]
 struct Placed {
     bytes: [u8; MAX_BYTES],
     read: Bytes,
 }
 
 // The bytes of a reply after a line, and the bytes that are taken of its MAX_BYTES.
-#[derive(Drop)]
+#[derive(Clone, Copy)]
 struct Filled {
     bytes: [u8; MAX_BYTES],
     fill: usize,
@@ -43,7 +45,7 @@ struct Filled {
 }
 
 // A reply after a line.
-#[derive(Drop)]
+#[derive(Clone, Copy)]
 struct Added {
     reply: Reply,
     fill: usize,

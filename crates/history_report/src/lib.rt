@@ -1,4 +1,6 @@
 // The report of a maintenance, behind the answer of the call in which it ran.
+#![tactic(auto)]
+
 ghost use Rattle.std.specs.Prelude.{◌≡◌, min, length};
 ghost use Rattle.report.specs.Rates.{ratings};
 ghost use Rattle.report.specs.Summary.{report_in};

@@ -1,5 +1,5 @@
 -- Laws of the definitions of `Texts`.
-use Rattle.core.specs.Prelude.{◌≡◌, ℕ, suc, ◌+◌, ◌-◌, ◌<◌, ◌≤◌, min, Bool, false, List, [], ◌++◌, length, take, ◌≢◌, nat_le, slice_index, slice_index_or}
+use Rattle.std.specs.Prelude.{◌≡◌, ℕ, suc, ◌+◌, ◌-◌, ◌<◌, ◌≤◌, min, Bool, false, List, [], ◌++◌, length, take, ◌≢◌, nat_le, slice_index, slice_index_or}
 use Rattle.std.proofs.Common.{sym, ◌∙◌, take_all, eq-eqb, ne_eqb, leb-true, leb-false}
 use native.Mathlib.Omega.{arith}
 use Rattle.std.proofs.Math.Numerals.{add-one}

@@ -1,5 +1,5 @@
 -- How long the answer of a call is at most.
-use Rattle.core.specs.Prelude.{ℕ, zero, suc, ◌*◌, ◌≤◌, min, Bool, true, false, List, length, take, ◌==◌, slice_index, slice_index_or}
+use Rattle.std.specs.Prelude.{ℕ, zero, suc, ◌*◌, ◌≤◌, min, Bool, true, false, List, length, take, ◌==◌, slice_index, slice_index_or}
 use native.Mathlib.Omega.{arith}
 use Rattle.std.proofs.Math.ListN.{length-append, length-take}
 use Rattle.base.specs.Choice.{cases}

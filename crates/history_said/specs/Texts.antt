@@ -1,5 +1,5 @@
 -- What the box's calls answer: history-format.md, "Calls of the box and their answers".
-use Rattle.core.specs.Prelude.{ℕ, zero, suc, min, Bool, true, false, List, [], ◌∷◌, ◌++◌, take, ◌==◌, slice_index, slice_index_or}
+use Rattle.std.specs.Prelude.{ℕ, zero, suc, min, Bool, true, false, List, [], ◌∷◌, ◌++◌, take, ◌==◌, slice_index, slice_index_or}
 use Rattle.base.specs.Choice.{pick}
 use Rattle.base.specs.Letters.{letter, letters}
 use Rattle.cache.specs.declared.Answer.{Answer as Asked}

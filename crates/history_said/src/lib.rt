@@ -1,5 +1,7 @@
 // What the box's calls answer, as history-format.md has it, written into lent memory as far as there is room.
-ghost use Rattle.core.specs.Prelude.{◌≡◌, min, ◌++◌};
+#![tactic(auto)]
+
+ghost use Rattle.std.specs.Prelude.{◌≡◌, min, ◌++◌};
 ghost use Rattle.control.specs.declared.DongleMessage.TheVariants.{SetPidPriority};
 ghost use Rattle.numeral.specs.Decimal.{decimal_text};
 ghost use Rattle.obd2.specs.Core.{Lent, details_of};
@@ -11,7 +13,7 @@ use config::PidPriority;
 use control::DongleMessage;
 use control_line::Taken;
 use link::Connecting;
-use obd2::core::Notes;
+use obd2::rest::Notes;
 use obd2::{Answer, Said};
 use poller::Query;
 use reply::{Reply, Response};

@@ -1,4 +1,6 @@
 // KNOWN, STATE, a result's KIND and LEARNT: what is known of the dongle and of its PIDs.
+#![tactic(auto)]
+
 ghost use Rattle.std.specs.Prelude.{◌≡◌, ◌<◌};
 ghost use Rattle.history_session.specs.Session.{state_of, kind_of, learnt_of, none_known, has_length, table_of, bit_of, bit_in, no_known, known_of};
 
@@ -10,25 +12,25 @@ use pid::DataLength;
 use rounds::{Kind, Learnt};
 
 // The PIDs whose lengths are known, none where the token is bad.
-#[derive(Drop)]
+#[derive(Clone, Copy)]
 pub struct KnownToken {
     pub known: [bool; 256],
     pub good: bool,
 }
 
-#[derive(Drop)]
+#[derive(Clone, Copy)]
 pub enum StateToken {
     Value(FeatureSupport),
     Bad,
 }
 
-#[derive(Drop)]
+#[derive(Clone, Copy)]
 pub enum KindToken {
     Value(Kind),
     Bad,
 }
 
-#[derive(Drop)]
+#[derive(Clone, Copy)]
 pub enum LearntToken {
     Value(Learnt),
     Bad,

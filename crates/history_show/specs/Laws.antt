@@ -1,5 +1,5 @@
 -- Laws of the definitions of `Texts`.
-use Rattle.core.specs.Prelude.{◌≡◌, ℕ, suc, ◌+◌, ◌-◌, ◌%◌, ◌<◌, ◌≤◌, Bool, true, false, not, ◌||◌, List, [], ◌++◌, map, length, get_or, drop, ◌==◌, ◌≢◌, slice_index, slice_index_or}
+use Rattle.std.specs.Prelude.{◌≡◌, ℕ, suc, ◌+◌, ◌-◌, ◌%◌, ◌<◌, ◌≤◌, Bool, true, false, not, ◌||◌, List, [], ◌++◌, map, length, get_or, drop, ◌==◌, ◌≢◌, slice_index, slice_index_or}
 use Rattle.std.proofs.Common.{append_assoc, ap, sym, ◌∙◌, drop_of_length-le, drop-cons, eq-eqb, ne_eqb}
 use Rattle.std.specs.Prelude.{refl}
 use native.Mathlib.Omega.{arith}

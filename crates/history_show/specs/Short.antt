@@ -1,5 +1,5 @@
 -- 8,192 bytes have room for the line of `show`.
-use Rattle.core.specs.Prelude.{◌≡◌, ℕ, zero, suc, ◌+◌, ◌*◌, ◌≤◌, min, Bool, true, false, List, [], ◌∷◌, length}
+use Rattle.std.specs.Prelude.{◌≡◌, ℕ, zero, suc, ◌+◌, ◌*◌, ◌≤◌, min, Bool, true, false, List, [], ◌∷◌, length}
 use Rattle.std.specs.Prelude.{refl}
 use Rattle.std.proofs.Common.{arith, length-append, length-take}
 use Rattle.base.specs.Choice.{pick, cases}
@@ -14,7 +14,7 @@ use Rattle.manager.specs.Rows.{manager_table}
 use Rattle.obd2.specs.Core.{Lent, lent, box_of}
 use Rattle.poller.specs.Core.{with_polled}
 use Rattle.obd2.specs.declared.State.{State}
-use Rattle.obd2.specs.declared.core.Core.{Core}
+use Rattle.obd2.specs.declared.rest.Core.{Core}
 use Rattle.pid_list.specs.Laws.{size_le}
 use Rattle.pid_list.specs.Rules.{size_of, entries}
 use Rattle.pid_list.specs.declared.PidList.{PidList}

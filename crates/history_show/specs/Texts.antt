@@ -1,5 +1,5 @@
 -- The line of `show`: history-format.md, "`show` answers `show T FASTINDEX FAST SLOWINDEX SLOW TABLE LINE REVS`".
-use Rattle.core.specs.Prelude.{ℕ, suc, min, Bool, true, false, List, [], ◌∷◌, ◌++◌, map}
+use Rattle.std.specs.Prelude.{ℕ, suc, min, Bool, true, false, List, [], ◌∷◌, ◌++◌, map}
 use Rattle.base.specs.Choice.{pick}
 use Rattle.base.specs.Letters.{letter, letters}
 use Rattle.config.specs.declared.PidPriority.{PidPriority}

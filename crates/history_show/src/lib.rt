@@ -1,6 +1,8 @@
 // The line that `show` answers, as history-format.md has it, written into lent memory as far as there is room: the
 // last accepted time, the poller's lists, the manager's table, the control line, the revs.
-ghost use Rattle.core.specs.Prelude.{◌≡◌, min, ◌||◌, length};
+#![tactic(auto)]
+
+ghost use Rattle.std.specs.Prelude.{◌≡◌, min, ◌||◌, length};
 ghost use Rattle.control_line.specs.Rows.{line_of};
 ghost use Rattle.obd2.specs.Core.{Lent, box_of};
 ghost use Rattle.pid_table.specs.Rows.{info_of, table_of};
@@ -12,10 +14,10 @@ use config::PidPriority;
 use control::DongleMessage;
 use control_line::places::{Ends, PLACES};
 use desk::Revs;
-use obd2::core::Core;
+use obd2::rest::Core;
 use pid_list::PidList;
 use pid_table::PidInfo;
-use poller::core::POLLED;
+use poller::rest::POLLED;
 
 // The letter of a speed.
 fn letter(priority: PidPriority) -> u8
@@ -165,9 +167,9 @@ pub fn show(
 {
     let word = writing::put(out, at, b"show ");
     let time = writing::number(out, word, core.time);
-    let fast = poller::core::fast(polled, core.poller.fast);
+    let fast = poller::rest::fast(polled, core.poller.fast);
     let first = list(out, time, fast);
-    let slow = poller::core::slow(polled, core.poller.slow);
+    let slow = poller::rest::slow(polled, core.poller.slow);
     let second = list(out, first, slow);
     let third = entries(out, second, table);
     let ends = core.line;

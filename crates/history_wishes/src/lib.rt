@@ -1,4 +1,6 @@
 // SETTINGS and PROFILE: fields parted by commas.
+#![tactic(auto)]
+
 ghost use Rattle.std.specs.Prelude.{◌≡◌};
 ghost use Rattle.history_wishes.specs.Wishes.{fourth, polling_of, keeping_of, settings_of, subject_of, profile_of};
 
@@ -7,20 +9,20 @@ use hex_text::Byte;
 use history_numbers::{FlagToken, ThresholdToken, Word32};
 use numeral::Number;
 
-#[derive(Drop)]
+#[derive(Clone, Copy)]
 pub enum SettingsToken {
     Value(Settings),
     Bad,
 }
 
-#[derive(Drop)]
+#[derive(Clone, Copy)]
 pub enum ProfileToken {
     Value(Profile),
     Bad,
 }
 
 // The first four fields of SETTINGS.
-#[derive(Drop)]
+#[derive(Clone, Copy)]
 enum PollingFields {
     Value {
         mode: u8,
@@ -32,7 +34,7 @@ enum PollingFields {
 }
 
 // The other four.
-#[derive(Drop)]
+#[derive(Clone, Copy)]
 enum KeepingFields {
     Value {
         demotion: u64,
@@ -44,7 +46,7 @@ enum KeepingFields {
 }
 
 // The first three fields of PROFILE.
-#[derive(Drop)]
+#[derive(Clone, Copy)]
 enum SubjectFields {
     Value { kind: u8, pid: u8, priority: u8 },
     Bad,

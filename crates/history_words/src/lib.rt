@@ -1,10 +1,12 @@
 // A line's first token, its word: the call that it names.
+#![tactic(auto)]
+
 ghost use Rattle.std.specs.Prelude.{◌≡◌};
 ghost use Rattle.history_words.specs.Words.{rare_of, word_of};
 
 use obd2::call::Call;
 
-#[derive(Drop)]
+#[derive(Clone, Copy)]
 pub enum Word {
     // a call of which the line says the time alone
     Bare(Call),

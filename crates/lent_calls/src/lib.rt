@@ -1,5 +1,7 @@
 // The box's start and its calls with the profiles lent, as a list of records: they are copied into the array that the
 // box holds.
+#![tactic(auto)]
+
 ghost use Rattle.std.specs.Prelude.{◌≡◌};
 ghost use Rattle.dispatch.specs.Dispatch.{call_of, area_of, Promised};
 ghost use Rattle.lent_calls.specs.Bringing.{bringing};
@@ -11,7 +13,7 @@ use config::{Profile, Profiles, Settings};
 use obd2::call::{Brought, Call};
 use obd2::{Answered, State};
 
-// The box's start. A list of more than 16 profiles is refused by 2 (`start-longer`).
+// The box's start. A list of more than 16 profiles is refused by 2 (`start_longer`).
 pub fn start(time: u64, settings: Settings, profiles: &[Profile]) -> Answered
     ensures value { result ≡ start_of time settings (copied_of profiles.now) }
     ensures promised_start { PromisedStart time settings (copied_of profiles.now) result }

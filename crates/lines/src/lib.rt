@@ -1,12 +1,14 @@
 // Lines read into lent memory from an input that comes in parts, however it is cut. A line that is longer
 // than the memory is one line still, and marked.
+#![tactic(auto)]
+
 ghost use Rattle.std.specs.Prelude.{◌≡◌};
 ghost use Rattle.text.specs.Cut.{head_of};
 ghost use Rattle.lines.specs.Reading.{start_reading, kept_of, kept_bytes, fed_of, answers_of};
 
 // The line that is being read: its first `len` bytes stand at the start of the memory, and it has more
 // where it is `long`.
-#[derive(Drop)]
+#[derive(Clone, Copy)]
 pub struct Reading {
     pub len: usize,
     pub long: bool,
@@ -14,7 +16,7 @@ pub struct Reading {
 
 // The line after a part of the input, how many bytes of the part were used, and whether the line's end was
 // among them.
-#[derive(Drop)]
+#[derive(Clone, Copy)]
 pub struct Fed {
     pub reading: Reading,
     pub used: usize,
@@ -38,13 +40,13 @@ fn keep(r: Reading, s: &[u8], line: &mut [u8]) -> Reading
     let at = base::least(r.len, line.len());
     let room = line.len() - at;
     if room < s.len() {
-        bytes::copy(&s[..room], &mut line[at..]);
+        base::copy(&s[..room], &mut line[at..]);
         return Reading {
             len: at + room,
             long: true,
         };
     }
-    bytes::copy(s, &mut line[at..]);
+    base::copy(s, &mut line[at..]);
     Reading {
         len: at + s.len(),
         long: r.long,

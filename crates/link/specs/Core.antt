@@ -4,9 +4,9 @@ use Rattle.link.specs.Ranges.{ranges_of}
 use Rattle.link.specs.declared.Link.{Link}
 use Rattle.link.specs.declared.Linked.{Linked}
 use Rattle.link.specs.declared.Checked.{Checked}
-use Rattle.link.specs.declared.core.Core.{Core}
-use Rattle.link.specs.declared.core.Tried.{Tried}
-use Rattle.link.specs.declared.core.Looked.{Looked}
+use Rattle.link.specs.declared.rest.Core.{Core}
+use Rattle.link.specs.declared.rest.Tried.{Tried}
+use Rattle.link.specs.declared.rest.Looked.{Looked}
 
 -- THE CONNECTION that the known lengths, the ranges' rows and the rest are.
 abbrev pub link_of : List Bool → List (List ℕ) → Core → Link

@@ -1,35 +1,37 @@
 // The connection to the dongle, and what is known of the dongle while it stands.
+#![tactic(auto)]
+
 ghost use Rattle.std.specs.Prelude.{◌≡◌};
 ghost use Rattle.link.specs.Rules.{no_ranges, is_no, rested_of};
 
 use reply::RangeReply;
 
 // what goes by value of a connection whose arrays are lent, and its calls; the ranges as they are lent
-pub mod core;
 pub mod ranges;
+pub mod rest;
 
 // The Rust's FeatureSupport.
-#[derive(Drop)]
+#[derive(Clone, Copy)]
 pub enum FeatureSupport {
     Unknown,
     Yes,
     No,
 }
 
-#[derive(Drop)]
+#[derive(Clone, Copy)]
 pub struct Features {
     // whether several PIDs may be asked together
     pub multi: FeatureSupport,
 }
 
 // The last reconnect check that said yes, if there was one.
-#[derive(Drop)]
+#[derive(Clone, Copy)]
 pub struct Attempt {
     pub made: bool,
     pub time: u64,
 }
 
-#[derive(Drop)]
+#[derive(Clone, Copy)]
 pub struct Link {
     pub connected: bool,
     pub features: Features,
@@ -41,27 +43,27 @@ pub struct Link {
 }
 
 // What a connection that was made hands in.
-#[derive(Drop)]
+#[derive(Clone, Copy)]
 pub struct Session {
     pub features: Features,
     pub ranges: [RangeReply; 8],
     pub known: [bool; 256],
 }
 
-#[derive(Drop)]
+#[derive(Clone, Copy)]
 pub enum Connecting {
     Connected,
     Failed,
     Already,
 }
 
-#[derive(Drop)]
+#[derive(Clone, Copy)]
 pub struct Linked {
     pub link: Link,
     pub said: Connecting,
 }
 
-#[derive(Drop)]
+#[derive(Clone, Copy)]
 pub struct Checked {
     pub link: Link,
     pub yes: bool,

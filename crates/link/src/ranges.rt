@@ -25,7 +25,7 @@ fn pack_range(range: RangeReply) -> [u8; RANGE_ROW]
     let packed = reply::rows::pack(reply);
     let mut row = [0u8; RANGE_ROW];
     row[0] = bit(range.present);
-    bytes::copy(&packed, &mut row[1..]);
+    base::copy(&packed, &mut row[1..]);
     row
 }
 
@@ -34,7 +34,7 @@ pub fn unpack_range(row: [u8; RANGE_ROW]) -> RangeReply
     ensures { result ≡ range_in row }
 {
     let mut packed = [0u8; ROW];
-    bytes::copy(&row[1..], &mut packed);
+    base::copy(&row[1..], &mut packed);
     let reply = reply::rows::unpack(packed);
     RangeReply {
         present: row[0] != 0,

@@ -1,6 +1,8 @@
 // The box's calls of the connection: whether a reconnect may be tried, and how it went. The time is not tested
 // here: `dispatch::call` does that before, and is the box's door.
-ghost use Rattle.core.specs.Prelude.{◌≡◌, length};
+#![tactic(auto)]
+
+ghost use Rattle.std.specs.Prelude.{◌≡◌, length};
 ghost use Rattle.base.specs.Each.{some_of};
 ghost use Rattle.obd2.specs.Call.{reconnect_check, connect, connect_failed};
 ghost use Rattle.obd2.specs.Core.{Lent, with_poller, box_of, answered_of};
@@ -10,9 +12,9 @@ ghost use Rattle.poller.specs.Core.{with_connection, with_ranges, known_rows};
 
 use link::Session;
 use link::ranges::{RANGE_ROW, RANGES};
-use obd2::core::{Core, Told};
+use obd2::rest::{Core, Told};
 use obd2::{Said, telling};
-use poller::core::KNOWN;
+use poller::rest::KNOWN;
 use reply::RangeReply;
 
 // Whether a reconnect may be tried.

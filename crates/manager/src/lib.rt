@@ -1,4 +1,6 @@
 // The manager: which PIDs are polled, and how. Each call does its event, and then maintenance if it is due.
+#![tactic(auto)]
+
 pub mod rows;
 
 ghost use Rattle.std.specs.Prelude.{◌≡◌};
@@ -9,7 +11,7 @@ use pid_table::{PidInfo, WaitDuration};
 use report::Report;
 use report::metrics::CacheMetrics;
 
-#[derive(Drop)]
+#[derive(Clone, Copy)]
 pub struct Manager {
     // pid_info, by PID
     pub table: [PidInfo; 256],
@@ -20,7 +22,7 @@ pub struct Manager {
 
 // What a call tells the manager (the Rust's CacheManagerMessage). Register, leave and response are no events here, as
 // tick is none: they only let it do maintenance.
-#[derive(Drop)]
+#[derive(Clone, Copy)]
 pub enum Event {
     ProfilePidsChanged,
     Waiting(u8),
@@ -29,14 +31,14 @@ pub enum Event {
 }
 
 // What an event leaves and sends.
-#[derive(Drop)]
+#[derive(Clone, Copy)]
 pub struct Noted {
     pub manager: Manager,
     pub outbox: Outbox,
 }
 
 // What a call leaves, sends and reports.
-#[derive(Drop)]
+#[derive(Clone, Copy)]
 pub struct Answer {
     pub manager: Manager,
     pub outbox: Outbox,

@@ -14,7 +14,7 @@ use report::metrics::CacheMetrics;
 use report::summary::Summary;
 
 // The manager but for its table.
-#[derive(Drop)]
+#[derive(Clone, Copy)]
 pub struct Core {
     pub metrics: CacheMetrics,
     // last_maintenance, or the start
@@ -22,14 +22,14 @@ pub struct Core {
 }
 
 // What an event leaves beside the table, and sends.
-#[derive(Drop)]
+#[derive(Clone, Copy)]
 pub struct Kept {
     pub core: Core,
     pub outbox: Outbox,
 }
 
 // What a call leaves beside the table, sends and reports.
-#[derive(Drop)]
+#[derive(Clone, Copy)]
 pub struct Handled {
     pub core: Core,
     pub outbox: Outbox,

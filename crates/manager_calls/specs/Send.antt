@@ -1,5 +1,5 @@
 -- Manager and line after a call of the manager, if its messages have room.
-use Rattle.core.specs.Prelude.{◌≡◌, ℕ, Bool, true, false, List}
+use Rattle.std.specs.Prelude.{◌≡◌, ℕ, Bool, true, false, List}
 use Rattle.std.proofs.Common.{ap, sym, ◌∙◌, arith, ltb-false, le-ltb}
 use Rattle.std.specs.Prelude.{Float}
 use Rattle.base.specs.Choice.{pick, cases, false_true}

@@ -1,5 +1,5 @@
 -- A manager's call behind its own refusals: the room on the line, and what it does.
-use Rattle.core.specs.Prelude.{◌≡◌, ℕ, true, false, [], ◌∷◌, ◌≢◌}
+use Rattle.std.specs.Prelude.{◌≡◌, ℕ, true, false, [], ◌∷◌, ◌≢◌}
 use Rattle.std.proofs.Math.Path.{refl, sym}
 use Rattle.std.proofs.Common.{◌∙◌}
 use Rattle.base.specs.Choice.{cases}
@@ -19,8 +19,8 @@ use Rattle.obd2.specs.Refusals.{exceeds, crowded, manager_rows, rows_of, row_ref
 use Rattle.obd2.specs.State.{managed, delivering}
 use Rattle.obd2.specs.declared.Answered.{Answered}
 use Rattle.obd2.specs.declared.State.{State}
-use Rattle.obd2.specs.declared.core.Core.{Core}
-use Rattle.obd2.specs.declared.core.Told.{Told}
+use Rattle.obd2.specs.declared.rest.Core.{Core}
+use Rattle.obd2.specs.declared.rest.Told.{Told}
 use Rattle.report.specs.Summary.{none_in}
 use Rattle.manager_calls.specs.Send.{Sent, send_of}
 

@@ -1,7 +1,9 @@
 // The manager's calls of the box: its event, and maintenance if that is due. What the manager says goes to the poller,
 // over the line, and a call for which the line has no room is refused. The time is not tested here: `dispatch::call` does that
 // before, and is the box's door.
-ghost use Rattle.core.specs.Prelude.{◌≡◌, false, length};
+#![tactic(auto)]
+
+ghost use Rattle.std.specs.Prelude.{◌≡◌, false, length};
 ghost use Rattle.manager.specs.Calls.{handle_of};
 ghost use Rattle.manager.specs.Rows.{manager_of};
 ghost use Rattle.control_line.specs.Rows.{line_of};
@@ -17,7 +19,7 @@ ghost use Rattle.obd2.specs.declared.Said.TheVariants.{Done};
 use config::Profiles;
 use control_line::places::{Ends, PLACES};
 use manager::{Event, rows};
-use obd2::core::{Core, Told};
+use obd2::rest::{Core, Told};
 use obd2::{Said, answers, telling};
 use passes::Terms;
 use pid_table::WaitDuration;
@@ -27,7 +29,7 @@ use report::summary::Summary;
 const MOST: u16 = 257;
 
 // Manager and line after a call, beside their lent arrays; as they were where the line has no room for its messages.
-#[derive(Drop)]
+#[derive(Clone, Copy)]
 pub struct Sent {
     pub refused: bool,
     pub manager: rows::Core,

@@ -1,32 +1,27 @@
 -- DOCUMENT 01'S MARKED ROWS: one table of what the definitions give, and one theorem; the row of five bytes is document
 -- 02's, A1. Beside it the value by every kind of data length.
-use Rattle.std.specs.Prelude.{true, false, List, [], ◌∷◌, ◌++◌, ◌≡◌, refl, ℕ, ◌+◌, ◌-◌, length, replicate, take}
+use Rattle.std.specs.Prelude.{[], true, false, List, ◌∷◌, ◌++◌, ℕ, ◌+◌, ◌-◌, length, replicate, take}
 use Rattle.base.specs.Choice.{pick}
-use Rattle.base.specs.Count.{more_of}
 use Rattle.base.specs.Letters.{letters}
-use Rattle.ascii.specs.Chars.{upper, hex_value, hex_digit, between}
-use Rattle.capture.specs.Format.{record_bytes, le}
-use Rattle.command.specs.Classify.{command_of, stripped, same_text, range_texts, index_of, pid_of}
+use Rattle.capture.specs.Format.{record_bytes}
 use Rattle.config.specs.declared.PidPriority.TheVariants.{Fast, Slow}
 use Rattle.control.specs.declared.DongleMessage.{DongleMessage}
 use Rattle.control.specs.declared.DongleMessage.TheVariants.{SetPidPriority, RemovePid}
 use Rattle.delivery.specs.Rules.{revs_after}
-use Rattle.pid.specs.Laws.{revs_length}
 use Rattle.pid.specs.declared.DataLength.{DataLength}
-use Rattle.pid.specs.declared.DataLength.TheVariants as data_length_law
-use Rattle.pid_list.specs.Rules.{empty_list, entries, size_of, place, wrap, swap_out, append_of, fit_of, remove_of, set_of, next_of}
+use Rattle.pid.specs.declared.DataLength.TheVariants as data_length
+use Rattle.pid_list.specs.Rules.{empty_list, entries, next_of}
 use Rattle.pid_list.specs.declared.PidList.{PidList}
-use Rattle.pid_table.specs.Entry.{is_fast, promotes_of, consumed_of, past_of, loose_of, idle_of, removed_of}
+use Rattle.pid_table.specs.Entry.{is_fast, promotes_of, consumed_of, removed_of}
 use Rattle.pid_table.specs.declared.PidInfo.{PidInfo}
 use Rattle.pid_table.specs.declared.LastTime.TheVariants.{Never, At}
 use Rattle.pid_table.specs.declared.WaitDuration.TheVariants.{Miss}
-use Rattle.poller.specs.Calls.{applied_of, apply_of}
+use Rattle.poller.specs.Calls.{apply_of}
 use Rattle.poller.specs.State.{start_of, with_lists}
 use Rattle.poller.specs.declared.Poller.{Poller}
-use Rattle.reply.specs.Rules.{first_line, first_length_of, lengths_of}
 use Rattle.reply.specs.declared.Reply.{Reply}
-use Rattle.transcript.specs.Lines.{class_name, number_text, tail_text, last_text, output}
-use Rattle.value.specs.Rules.{width_of, data_of, fold_of, value_by, value_of}
+use Rattle.transcript.specs.Lines.{output}
+use Rattle.value.specs.Rules.{value_by, value_of}
 
 -- The document's four lines and the two commands named beside them; what the program `commands` prints for these.
 abbrev pub input : List ℕ
@@ -40,10 +35,6 @@ printed =
     ++ (letters "ATZ\t?\t-\n"
     ++ (letters "010c0D\tpid\t0C\n"
     ++ letters "010\t?\t-\n"))))
-
-prints : output [] input ≡ printed
-unfolding output last_text tail_text class_name number_text hex_digit command_of stripped same_text range_texts index_of pid_of upper hex_value between
-prints = refl
 
 -- A reply of one line.
 abbrev line : List ℕ → Reply
@@ -88,21 +79,6 @@ results =
     ∷ record_bytes 4294967297 1 (0x41 ∷ 0x0c ∷ [])
     ∷ []
 
-pub rows : results
-    ≡ printed
-    ∷ (6904 ∷ 1726 ∷ [])
-    ∷ (258 ∷ 64 ∷ [])
-    ∷ (1 ∷ [])
-    ∷ (0 ∷ [])
-    ∷ (0 ∷ [])
-    ∷ (1 ∷ [])
-    ∷ (3 ∷ 2 ∷ 3 ∷ [])
-    ∷ (6 ∷ 5 ∷ 4 ∷ 5 ∷ [])
-    ∷ (0x01 ∷ 0x00 ∷ 0x00 ∷ 0x00 ∷ 0x01 ∷ 0x02 ∷ 0x00 ∷ 0x41 ∷ 0x0c ∷ [])
-    ∷ []
-unfolding record_bytes le revs_after entries size_of place wrap swap_out append_of fit_of remove_of set_of next_of applied_of is_fast promotes_of consumed_of more_of past_of loose_of idle_of removed_of value_of value_by width_of data_of first_line first_length_of lengths_of fold_of
-rows = rw (prints, revs_length)
-
 -- A1: a line with n bytes behind mode and PID. A row is the values with n - 1, n and n + 1 of them: fewer than the data length, as
 -- many, and more; where there is none, about the four that are then read.
 abbrev bringing : ℕ → Reply
@@ -114,23 +90,11 @@ length_row l n = value_by l (bringing (n - 1)) ∷ value_by l (bringing n) ∷ v
 -- No PID has a length of 3, or of more than 5, so only these rows show them.
 abbrev pub by_length : List (List ℕ)
 by_length =
-    length_row (data_length_law.Known 1) 1
-    ∷ length_row (data_length_law.Known 2) 2
-    ∷ length_row (data_length_law.Known 3) 3
-    ∷ length_row (data_length_law.Known 4) 4
-    ∷ length_row (data_length_law.Known 5) 5
-    ∷ length_row (data_length_law.Known 6) 6
-    ∷ length_row data_length_law.Unknown 4
+    length_row (data_length.Known 1) 1
+    ∷ length_row (data_length.Known 2) 2
+    ∷ length_row (data_length.Known 3) 3
+    ∷ length_row (data_length.Known 4) 4
+    ∷ length_row (data_length.Known 5) 5
+    ∷ length_row (data_length.Known 6) 6
+    ∷ length_row data_length.Unknown 4
     ∷ []
-
-pub lengths : by_length
-    ≡ (0 ∷ 1 ∷ 1 ∷ [])
-    ∷ (1 ∷ 258 ∷ 258 ∷ [])
-    ∷ (258 ∷ 66051 ∷ 66051 ∷ [])
-    ∷ (66051 ∷ 16909060 ∷ 16909060 ∷ [])
-    ∷ (16909060 ∷ 16909060 ∷ 16909060 ∷ [])
-    ∷ (16909060 ∷ 16909060 ∷ 16909060 ∷ [])
-    ∷ (66051 ∷ 16909060 ∷ 16909060 ∷ [])
-    ∷ []
-unfolding value_by width_of data_of first_line first_length_of lengths_of fold_of
-lengths = refl

@@ -1,9 +1,11 @@
 // Decimal numbers as text, read and written.
+#![tactic(auto)]
+
 ghost use Rattle.std.specs.Prelude.{◌≡◌, ◌≤◌, length, drop};
 ghost use Rattle.numeral.specs.Decimal.{number_of, decimal_text};
 ghost use Rattle.text.specs.Put.{put_of, put_end};
 
-#[derive(Drop)]
+#[derive(Clone, Copy)]
 pub enum Number {
     Value(u64),
     Bad,

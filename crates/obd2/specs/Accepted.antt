@@ -1,6 +1,6 @@
 -- What an accepted call's table of refusals tells: its time is one that the box takes, its messages have room, and
 -- no round is open where none may be.
-use Rattle.core.specs.Prelude.{◌≡◌, ℕ, ◌≤◌, Bool, true, false, [], ◌∷◌, nat_lt}
+use Rattle.std.specs.Prelude.{◌≡◌, ℕ, ◌≤◌, Bool, true, false, [], ◌∷◌, nat_lt}
 use Rattle.std.proofs.Math.Path.{refl}
 use Rattle.std.proofs.Common.{sym, ◌∙◌, arith, ltb-false}
 use Rattle.base.specs.Choice.{cases, false_true}

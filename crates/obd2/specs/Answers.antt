@@ -1,6 +1,6 @@
 -- Document 01's number and values of each answer, what every call promises of them, and the ways to a call's answer that the
 -- functions take.
-use Rattle.core.specs.Prelude.{◌≡◌, ℕ, Bool, true, false, List, [], ◌∷◌, ◌++◌, map, take, ◌==◌, ◌≢◌}
+use Rattle.std.specs.Prelude.{◌≡◌, ℕ, Bool, true, false, List, [], ◌∷◌, ◌++◌, map, take, ◌==◌, ◌≢◌}
 use Rattle.std.specs.Prelude.{refl}
 use Rattle.std.proofs.Common.{sym, ◌∙◌, eqb-true, ne_eqb}
 use Rattle.base.specs.Choice.{pick, one, cases}

@@ -1,6 +1,6 @@
 -- A call of the box with its arguments: document 01's 17, connect in its two outcomes, by the side that they are of. A
 -- client's call changes the desk alone, one of the connection or of a round the poller alone.
-use Rattle.core.specs.Prelude.{◌≡◌, ℕ, ◌<◌, ◌≤◌, List, [], ◌∷◌, length, slice_index_or}
+use Rattle.std.specs.Prelude.{◌≡◌, ℕ, ◌<◌, ◌≤◌, List, [], ◌∷◌, length, slice_index_or}
 use Rattle.base.specs.Bytes.{Bytes}
 use Rattle.base.specs.Count.{most}
 use Rattle.config.specs.declared.Profiles.{Profiles}

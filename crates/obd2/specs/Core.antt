@@ -1,5 +1,5 @@
 -- The box as it is held: the lent arrays and what goes by value, put together as the box that the calls are said of.
-use Rattle.core.specs.Prelude.{◌≡◌, ℕ, Bool, false, List, replicate}
+use Rattle.std.specs.Prelude.{◌≡◌, ℕ, Bool, false, List, replicate}
 use Rattle.std.specs.Prelude.{Float}
 use Rattle.control_line.specs.Rows.{line_of}
 use Rattle.desk.specs.Core.{desk_of}
@@ -17,9 +17,9 @@ use Rattle.obd2.specs.declared.Answered.{Answered}
 use Rattle.obd2.specs.declared.Details.{Details}
 use Rattle.obd2.specs.declared.Said.{Said}
 use Rattle.obd2.specs.declared.State.{State}
-use Rattle.obd2.specs.declared.core.Core.{Core}
-use Rattle.obd2.specs.declared.core.Notes.{Notes}
-use Rattle.obd2.specs.declared.core.Told.{Told}
+use Rattle.obd2.specs.declared.rest.Core.{Core}
+use Rattle.obd2.specs.declared.rest.Notes.{Notes}
+use Rattle.obd2.specs.declared.rest.Told.{Told}
 
 -- What the host lends: the newest replies and the manager's table, a row for each PID; the clients' fresh marks, a row for
 -- each place; the control line's places; the poller's arrays; and the PIDs and rates of a report.

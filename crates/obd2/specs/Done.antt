@@ -1,5 +1,5 @@
 -- What an accepted call does, side by side: document 01's rules for desk, manager and poller, put together.
-use Rattle.core.specs.Prelude.{ℕ, ◌+◌, Bool, false, List, replicate}
+use Rattle.std.specs.Prelude.{ℕ, ◌+◌, Bool, false, List, replicate}
 use Rattle.cache.specs.Rules.{answer_of, handed_of, after_ask, step_of}
 use Rattle.cache.specs.declared.Step.{Step}
 use Rattle.clients.specs.Rules.{idled_of}

@@ -1,6 +1,6 @@
 -- What holds of every call, by its accepted case alone: a refused call changes nothing, an accepted one has a time that
 -- the box takes and keeps it, and the number in the answer is the refusal's.
-use Rattle.core.specs.Prelude.{◌≡◌, ℕ, true, false, List, [], ◌∷◌, ◌==◌, ◌≢◌}
+use Rattle.std.specs.Prelude.{◌≡◌, ℕ, true, false, List, [], ◌∷◌, ◌==◌, ◌≢◌}
 use Rattle.std.proofs.Math.Path.{refl}
 use Rattle.std.proofs.Common.{sym, ◌∙◌, eqb-true}
 use Rattle.base.specs.Choice.{pick, cases}

@@ -1,6 +1,6 @@
 -- The refusals of the box: document 01's table, call by call. Each call's rows stand in the table's order, so that
 -- the first whose condition holds has the lowest number. Where a component alone decides, its rows stand with its rules.
-use Rattle.core.specs.Prelude.{ℕ, Bool, not, ◌&&◌, ◌||◌, [], ◌∷◌, ◌++◌, length, nat_lt}
+use Rattle.std.specs.Prelude.{ℕ, Bool, not, ◌&&◌, ◌||◌, [], ◌∷◌, ◌++◌, length, nat_lt}
 use Rattle.base.specs.Each.{some_of}
 use Rattle.base.specs.Refusal.{Rows, first_of}
 use Rattle.cache.specs.Rules.{ask_rows}

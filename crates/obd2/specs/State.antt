@@ -1,5 +1,5 @@
 -- The box's state: its setters, and the box that a start returns.
-use Rattle.core.specs.Prelude.{ℕ, Bool, false, List, replicate}
+use Rattle.std.specs.Prelude.{ℕ, Bool, false, List, replicate}
 use Rattle.config.specs.declared.Settings.{Settings}
 use Rattle.config.specs.declared.Profiles.{Profiles}
 use Rattle.control.specs.Outbox.{messages}

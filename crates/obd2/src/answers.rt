@@ -1,5 +1,5 @@
 // The tests of refusals 1 and 15, each made in one place.
-ghost use Rattle.core.specs.Prelude.{◌≡◌};
+ghost use Rattle.std.specs.Prelude.{◌≡◌};
 ghost use Rattle.obd2.specs.Refusals.{bad_time, exceeds};
 
 // The last time that the box takes: up to it the rates are exact enough.

@@ -8,7 +8,7 @@ use rounds::Outcome;
 // A call with its numbers: a client's number, a PID, a wait, settings. Beside it go its time, the lists that it
 // brings (`Brought`, since no enum holds an array), and what is lent: the bytes of a command, and the area that an
 // ask and a collect fill.
-#[derive(Drop)]
+#[derive(Clone, Copy)]
 pub enum Call {
     Register,
     Leave(u32),
@@ -31,7 +31,7 @@ pub enum Call {
 }
 
 // What a call of the same name brings; the others leave it unread.
-#[derive(Drop)]
+#[derive(Clone, Copy)]
 pub struct Brought {
     pub profiles: Profiles,
     pub response: Response,

@@ -1,5 +1,7 @@
 // The joined box: desk, manager, control line and poller, as one state by value. ("Box" is document 01's word
 // for the whole of them, "desk" for the side that serves clients.)
+#![tactic(auto)]
+
 use config::{Profiles, Settings};
 use control_line::{ControlLine, Taken};
 use desk::Desk;
@@ -14,10 +16,10 @@ pub mod answers;
 // a call as a value
 pub mod call;
 // the box as it is held, its arrays lent, and answers over it put together
-pub mod core;
+pub mod rest;
 pub mod telling;
 
-#[derive(Drop)]
+#[derive(Clone, Copy)]
 pub struct State {
     pub desk: Desk,
     pub manager: Manager,
@@ -30,7 +32,7 @@ pub struct State {
 }
 
 // What a call answers.
-#[derive(Drop)]
+#[derive(Clone, Copy)]
 pub enum Answer {
     // document 01's number
     Refused(u8),
@@ -39,7 +41,7 @@ pub enum Answer {
 
 // What an accepted call says, in the words of the side that it is of. An answer that hands out bytes has them in the lent
 // area, and the lines' lengths in `Details`.
-#[derive(Drop)]
+#[derive(Clone, Copy)]
 pub enum Said {
     Started,
     // a new client's number
@@ -59,7 +61,7 @@ pub enum Said {
 }
 
 // What stands beside an answer: a reply's lines, the values and notices of a response, a query, a report.
-#[derive(Drop)]
+#[derive(Clone, Copy)]
 pub struct Details {
     pub lines: u8,
     pub lengths: [u8; 8],
@@ -69,7 +71,7 @@ pub struct Details {
     pub report: Report,
 }
 
-#[derive(Drop)]
+#[derive(Clone, Copy)]
 pub struct Answered {
     pub state: State,
     pub answer: Answer,

@@ -1,8 +1,8 @@
 // Answers put together, which the calls share.
-ghost use Rattle.core.specs.Prelude.{◌≡◌};
+ghost use Rattle.std.specs.Prelude.{◌≡◌};
 ghost use Rattle.obd2.specs.Core.{delivers, reports, no_notes, noted, queries, refusing, accepts};
 
-use super::core::{Core, Notes, Told};
+use super::rest::{Core, Notes, Told};
 use super::{Answer, Said};
 use poller::Query;
 use report::summary::Summary;

@@ -1,5 +1,7 @@
 // What goes over the whole table: registering the profiles, and the parts of maintenance. Each is a pass
 // from PID 0 to PID 255 that changes every entry by itself and tells the poller of each change of speed.
+#![tactic(auto)]
+
 pub mod rows;
 pub mod wishes;
 
@@ -11,21 +13,21 @@ use control::outbox::Outbox;
 use pid_table::PidInfo;
 
 // The table, and what is to be sent because of its changes.
-#[derive(Drop)]
+#[derive(Clone, Copy)]
 pub struct Ledger {
     pub table: [PidInfo; 256],
     pub outbox: Outbox,
 }
 
 // What a pass goes by.
-#[derive(Drop)]
+#[derive(Clone, Copy)]
 pub struct Terms {
     pub profiles: Profiles,
     pub settings: Settings,
     pub now: u64,
 }
 
-#[derive(Drop)]
+#[derive(Clone, Copy)]
 pub enum Pass {
     Register,
     Demote,

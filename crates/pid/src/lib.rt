@@ -1,9 +1,11 @@
 // OBD2 PIDs and the SAE J1979 data-length table (pid.rs).
+#![tactic(auto)]
+
 ghost use Rattle.std.specs.Prelude.{◌≡◌};
 ghost use Rattle.pid.specs.Lengths.{data_length_of};
 
 // How many data bytes follow the service byte and the PID byte in a mode 01 reply line.
-#[derive(Drop)]
+#[derive(Clone, Copy)]
 pub enum DataLength {
     Known(u8),
     Unknown,

@@ -1,9 +1,11 @@
 // The poller's list of PIDs, as the Rust's IndexSet with its index: an array of 256 places with a length.
+#![tactic(auto)]
+
 ghost use Rattle.std.specs.Prelude.{◌≡◌, ◌<◌, take};
 ghost use Rattle.pid_list.specs.Rules.{size_of, place, wrap, empty_list, swap_out, append_of, fit_of, remove_of, set_of, next_of};
 
 // The first `len` of `pids`, and the place that is polled next. A length above 256 counts as 256.
-#[derive(Drop)]
+#[derive(Clone, Copy)]
 pub struct PidList {
     pub pids: [u8; 256],
     pub len: usize,
@@ -11,7 +13,7 @@ pub struct PidList {
 }
 
 // What `next` answers: the list with its index moved, and the PID. An empty list has none.
-#[derive(Drop)]
+#[derive(Clone, Copy)]
 pub struct Picked {
     pub list: PidList,
     pub found: bool,

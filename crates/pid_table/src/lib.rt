@@ -1,5 +1,7 @@
 // What the manager knows of a PID (the Rust's PidInfo), and what each event and each part of maintenance
 // makes of it. A PID's entry changes only by these functions.
+#![tactic(auto)]
+
 pub mod rows;
 
 ghost use Rattle.std.specs.Prelude.{◌≡◌};
@@ -12,27 +14,27 @@ use control::DongleMessage;
 use control::outbox::Outbox;
 
 // When something last happened.
-#[derive(Drop)]
+#[derive(Clone, Copy)]
 pub enum LastTime {
     Never,
     At(u64),
 }
 
 // How a client came by a reading: from the cache at once, or after a wait.
-#[derive(Drop)]
+#[derive(Clone, Copy)]
 pub enum WaitDuration {
     Hit,
     Miss(u64),
 }
 
 // What the profiles in force want of a PID.
-#[derive(Drop)]
+#[derive(Clone, Copy)]
 pub enum Wish {
     Unwanted,
     Wanted(PidPriority),
 }
 
-#[derive(Drop)]
+#[derive(Clone, Copy)]
 pub struct PidInfo {
     // whether the PID is in the table; if not, the other fields have no meaning
     pub tracked: bool,

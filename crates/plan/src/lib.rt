@@ -1,5 +1,7 @@
 // The plan of a multi round: which PIDs are asked together, and in which order (the Rust's
 // partition_pids_by_ecu_count and its chunks). It is fixed when the round begins.
+#![tactic(auto)]
+
 ghost use Rattle.std.specs.Prelude.{◌≡◌, ◌≤◌};
 ghost use Rattle.std.proofs.lemmas.List.Edits.{sets};
 ghost use Rattle.pid_list.specs.Rules.{entries};
@@ -10,7 +12,7 @@ use pid_list::PidList;
 
 // The PIDs of both lists, fast then slow, with what was known of each when the round began; and how far the
 // round is: the group that is asked, and the place from which its PIDs are still to be asked.
-#[derive(Drop)]
+#[derive(Clone, Copy)]
 pub struct Plan {
     pub pids: [u8; 512],
     pub len: usize,
@@ -22,20 +24,20 @@ pub struct Plan {
 }
 
 // PIDs that are asked together: the first `count`.
-#[derive(Drop)]
+#[derive(Clone, Copy)]
 pub struct Chunk {
     pub pids: [u8; 6],
     pub count: usize,
 }
 
-#[derive(Drop)]
+#[derive(Clone, Copy)]
 pub struct Gathered {
     pub chunk: Chunk,
     pub at: usize,
 }
 
 // What `take` answers: the plan without the chunk, and the chunk; an empty one when the plan is done.
-#[derive(Drop)]
+#[derive(Clone, Copy)]
 pub struct Taken {
     pub plan: Plan,
     pub chunk: Chunk,

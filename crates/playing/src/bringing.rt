@@ -7,7 +7,7 @@ use obd2::call::Brought;
 use poller::Round;
 
 // What the calls brought, and whether the line's list is good.
-#[derive(Drop)]
+#[derive(Clone, Copy)]
 pub struct Bringing {
     pub brought: Brought,
     pub good: bool,

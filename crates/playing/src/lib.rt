@@ -1,34 +1,37 @@
 // Plays a part of a history's text to the box: a call a line in, an answer a line out, as history-format.md has them. `history`
 // tells what a line is and reads what it brings, `setup_calls` starts the box and `dispatch` applies a call to it, `history_answer`
 // and `history_show` put the answer together. The box's arrays are lent; what is small of it goes by value.
+#![tactic(auto)]
+
 mod bringing;
 mod tasks;
 
-ghost use Rattle.core.specs.Prelude.{◌≡◌, length};
+ghost use Rattle.std.specs.Prelude.{◌≡◌, length};
 ghost use Rattle.clients.specs.Rules.{places};
 ghost use Rattle.dispatch.specs.Dispatch.{Whole};
 ghost use Rattle.obd2.specs.Core.{lent};
 ghost use Rattle.poller.specs.Core.{held, polled_rows, known_rows};
 
 use clients::PLACES;
-use libc::STDOUT_FILENO;
 use lines::Reading;
 use link::ranges::{RANGE_ROW, RANGES};
 use obd2::call::{Brought, Call};
-use obd2::core::Told;
-use poller::core::{KNOWN, ORDER, POLLED};
+use obd2::rest::Told;
+use poller::rest::{KNOWN, ORDER, POLLED};
 use reply::Response;
 use reply::rows::ROW;
+use std::io;
+use std::io::Write;
 use tasks::Task;
 
-// No answer is longer: a call's has at most 4,096 bytes (`answer-whole`), that of `show` 8,192 (`show-whole`).
+// No answer is longer: a call's has at most 4,096 bytes (`answer_whole`), that of `show` 8,192 (`show_whole`).
 const ANSWER: usize = 16384;
 
 // The places of the control line.
 pub const WAITING: usize = control_line::places::PLACES;
 
 // The last answer, which has what goes by value of the box, what the calls brought, and the notes beside them.
-#[derive(Drop)]
+#[derive(Clone, Copy)]
 pub struct Playing {
     pub last: Told,
     pub brought: Brought,
@@ -36,7 +39,7 @@ pub struct Playing {
 }
 
 // How many bytes of answers wait to be written, and the line that is being read.
-#[derive(Drop)]
+#[derive(Clone, Copy)]
 pub struct Notes {
     pub waiting: usize,
     pub reading: Reading,
@@ -124,24 +127,24 @@ fn tell(
 }
 
 // Writes the answers that wait.
-fn flush(mut notes: Notes, out: &[u8]) -> Notes {
+fn flush<W: Write>(mut notes: Notes, out: &[u8], writer: &mut W) -> io::Result<Notes> {
     let n = base::least(notes.waiting, out.len());
-    io::write_all(STDOUT_FILENO, &out[..n]);
+    writer.write_all(&out[..n])?;
     notes.waiting = 0;
-    notes
+    Ok(notes)
 }
 
 // Makes room for one more answer.
-fn room(notes: Notes, out: &[u8]) -> Notes {
+fn room<W: Write>(notes: Notes, out: &[u8], writer: &mut W) -> io::Result<Notes> {
     if out.len() - base::least(notes.waiting, out.len()) < ANSWER {
-        return flush(notes, out);
+        return flush(notes, out, writer);
     }
-    notes
+    Ok(notes)
 }
 
 // Answers each line that ends in a part of the input. What goes by value of the box stands in the last answer and goes from it
 // straight into the next call: each place that it is put down in between costs a copy of it.
-pub fn answer_part(
+pub fn answer_part<W: Write>(
     replies: &mut [[u8; ROW]; 256],
     marks: &mut [[bool; 256]; PLACES],
     table: &mut [[u64; 8]; 256],
@@ -158,7 +161,8 @@ pub fn answer_part(
     bytes: &mut [u8],
     area: &mut [u8],
     out: &mut [u8],
-) -> Playing
+    writer: &mut W,
+) -> io::Result<Playing>
     requires { Whole (lent replies.old marks.old table.old slots.old (held polled.old known.old order.old ranges.old) pids.old rates.old) }
     ensures { Whole (lent replies.new marks.new table.new slots.new (held polled.new known.new order.new ranges.new) pids.new rates.new) }
 {
@@ -170,7 +174,7 @@ pub fn answer_part(
         let fed = lines::feed(notes.reading, &input[at..], line);
         at += fed.used;
         let len = base::least(fed.reading.len, line.len());
-        let taken = tasks::take_line(notes, fed, &line[..len], bytes, out);
+        let taken = tasks::take_line(notes, fed, &line[..len], bytes, out, writer)?;
         notes = taken.notes;
         let mut task = taken.task;
         let list = taken.list;
@@ -224,10 +228,10 @@ pub fn answer_part(
             }
         }
     }
-    notes = flush(notes, out);
-    Playing {
+    notes = flush(notes, out, writer)?;
+    Ok(Playing {
         last,
         brought,
         notes,
-    }
+    })
 }

@@ -4,9 +4,11 @@ use config::Settings;
 use history_calls::Line;
 use lines::Fed;
 use obd2::call::Call;
+use std::io;
+use std::io::Write;
 
 // What a line asks for if the list that it brings is good, that list, and the notes.
-#[derive(Drop)]
+#[derive(Clone, Copy)]
 pub struct Taken {
     pub notes: Notes,
     pub task: Task,
@@ -14,7 +16,7 @@ pub struct Taken {
 }
 
 // `Nothing` where no line has ended, or one that has no answer.
-#[derive(Drop)]
+#[derive(Clone, Copy)]
 pub enum Task {
     Nothing,
     Bad,
@@ -25,7 +27,7 @@ pub enum Task {
 
 // What a line brings, as `history::brought` has it. It is read for the lines alone that bring something: no other has
 // to carry it.
-#[derive(Drop)]
+#[derive(Clone, Copy)]
 pub enum List {
     None,
     StartProfiles,
@@ -36,7 +38,7 @@ pub enum List {
 }
 
 // A call, its time, how many bytes its command has and how many the area that is lent to it.
-#[derive(Drop)]
+#[derive(Clone, Copy)]
 pub struct Asked {
     pub time: u64,
     pub call: Call,
@@ -45,7 +47,7 @@ pub struct Asked {
 }
 
 // A start; its profiles are brought.
-#[derive(Drop)]
+#[derive(Clone, Copy)]
 pub struct Starting {
     pub time: u64,
     pub settings: Settings,
@@ -117,35 +119,43 @@ fn alone(notes: Notes, task: Task) -> Taken {
 }
 
 // What a line asks for that has ended. One that is too long is no call.
-fn read_line(notes: Notes, line: &[u8], long: bool, bytes: &mut [u8], out: &[u8]) -> Taken {
+fn read_line<W: Write>(
+    notes: Notes,
+    line: &[u8],
+    long: bool,
+    bytes: &mut [u8],
+    out: &[u8],
+    writer: &mut W,
+) -> io::Result<Taken> {
     if !lines::answers(line) {
-        return alone(notes, Task::Nothing);
+        return Ok(alone(notes, Task::Nothing));
     }
-    let notes = crate::room(notes, out);
+    let notes = crate::room(notes, out, writer)?;
     if long {
-        return alone(notes, Task::Bad);
+        return Ok(alone(notes, Task::Bad));
     }
     let what = history::parse(line, bytes);
-    Taken {
+    Ok(Taken {
         notes,
         task: task_of(what),
         list: list_of(what),
-    }
+    })
 }
 
 // What is to be done once a part of the input was read, of which `line` is the line.
-pub(crate) fn take_line(
+pub(crate) fn take_line<W: Write>(
     mut notes: Notes,
     fed: Fed,
     line: &[u8],
     bytes: &mut [u8],
     out: &[u8],
-) -> Taken {
+    writer: &mut W,
+) -> io::Result<Taken> {
     let read = fed.reading;
     if !fed.ended {
         notes.reading = read;
-        return alone(notes, Task::Nothing);
+        return Ok(alone(notes, Task::Nothing));
     }
     notes.reading = lines::start();
-    read_line(notes, line, read.long, bytes, out)
+    read_line(notes, line, read.long, bytes, out, writer)
 }

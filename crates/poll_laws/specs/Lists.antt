@@ -2,7 +2,7 @@
 use Rattle.std.specs.Prelude.{ℕ, ◌<◌, eqb}
 use Rattle.base.specs.Choice.{cases}
 use Rattle.config.specs.declared.PidPriority.TheVariants.{Fast, Slow}
-use Rattle.control.specs.Speed.{untracked, Speed, fast, slow, named, after, Listed, Agree}
+use Rattle.control.specs.Speed.{untracked, Speed, named, after, Listed, Agree}
 use Rattle.control.specs.declared.DongleMessage.{DongleMessage}
 use Rattle.control.specs.declared.DongleMessage.TheVariants.{SetPidPriority, RemovePid}
 use Rattle.pid_list.specs.Members.{Sound, empty_sound, empty_times, remove_times, remove_sound, set_times, set_sound}

@@ -1,6 +1,6 @@
 -- Control messages, the connection, and a round's begin: document 01, "Rounds (poller)". That no round
 -- is open is the box's test (12).
-use Rattle.core.specs.Prelude.{ℕ, Bool, not, ◌&&◌, ◌==◌}
+use Rattle.std.specs.Prelude.{ℕ, Bool, not, ◌&&◌, ◌==◌}
 use Rattle.base.specs.Choice.{pick}
 use Rattle.config.specs.declared.Settings.{Settings}
 use Rattle.config.specs.declared.PidPriority.TheVariants.{Fast, Slow}

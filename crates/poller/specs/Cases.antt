@@ -1,5 +1,5 @@
 -- Each definition of the calls, case by case: what the functions' proofs and the laws cite.
-use Rattle.core.specs.Prelude.{◌≡◌, ℕ, true, false}
+use Rattle.std.specs.Prelude.{◌≡◌, ℕ, true, false}
 use Rattle.std.proofs.Math.Path.{refl}
 use Rattle.config.specs.declared.Settings.{Settings}
 use Rattle.link.specs.Rules.{is_no, connect_of as linkUp, fail_of as linkDown, reconnect_of as linkCheck}

@@ -1,12 +1,12 @@
 -- The poller as it is held: the lent arrays and what goes by value, put together as the poller that the rules are said of.
-use Rattle.core.specs.Prelude.{◌≡◌, ℕ, ◌<◌, Bool, false, List, [], length, get_or, replicate, ◌==◌, slice_index_or, slice_set}
+use Rattle.std.specs.Prelude.{◌≡◌, ℕ, ◌<◌, Bool, false, List, [], length, get_or, replicate, ◌==◌, slice_index_or, slice_set}
 use Rattle.std.specs.Prelude.{refl}
 use Rattle.std.proofs.Common.{ap, ◌∙◌, arith, length-set, get_or-set_same, get_or-set_other}
 use Rattle.std.proofs.lemmas.Bool.{eqb-false}
 use Rattle.link.specs.Core.{link_of}
 use Rattle.link.specs.Rules.{start_link}
 use Rattle.link.specs.declared.Link.{Link}
-use Rattle.link.specs.declared.core.Core.{Core as LinkCore}
+use Rattle.link.specs.declared.rest.Core.{Core as LinkCore}
 use Rattle.pid_list.specs.Rules.{empty_list}
 use Rattle.pid_list.specs.declared.PidList.{PidList}
 use Rattle.plan.specs.Steps.{plan_of}
@@ -18,11 +18,11 @@ use Rattle.poller.specs.declared.Checked.{Checked}
 use Rattle.poller.specs.declared.Linked.{Linked}
 use Rattle.poller.specs.declared.Poller.{Poller}
 use Rattle.poller.specs.declared.Round.{Round}
-use Rattle.poller.specs.declared.core.Core.{Core}
-use Rattle.poller.specs.declared.core.Course.{Course}
-use Rattle.poller.specs.declared.core.Ends.{Ends}
-use Rattle.poller.specs.declared.core.Looked.{Looked}
-use Rattle.poller.specs.declared.core.Tried.{Tried}
+use Rattle.poller.specs.declared.rest.Core.{Core}
+use Rattle.poller.specs.declared.rest.Course.{Course}
+use Rattle.poller.specs.declared.rest.Ends.{Ends}
+use Rattle.poller.specs.declared.rest.Looked.{Looked}
+use Rattle.poller.specs.declared.rest.Tried.{Tried}
 
 -- What the host lends: the rows of PIDs and ECU counts, those of known lengths, the plan's PIDs, and the ranges' rows.
 pub record Held : Type 0 where

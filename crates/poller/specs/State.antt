@@ -1,5 +1,5 @@
 -- The poller's state: its start, its setters, and when a round is open and a result due.
-use Rattle.core.specs.Prelude.{ℕ, Bool, true, false, List, take, replicate}
+use Rattle.std.specs.Prelude.{ℕ, Bool, true, false, List, take, replicate}
 use Rattle.config.specs.Defaults.{default_settings}
 use Rattle.config.specs.declared.Settings.{Settings}
 use Rattle.link.specs.Rules.{start_link}

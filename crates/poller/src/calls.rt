@@ -1,10 +1,10 @@
 // Control messages, the connection, and a round's begin: the box takes these calls when no round is open.
-ghost use Rattle.core.specs.Prelude.{◌≡◌, ℕ, List, length};
+ghost use Rattle.std.specs.Prelude.{◌≡◌, ℕ, List, length};
 ghost use Rattle.poller.specs.Core.{Held, held, with_polled, with_connection, with_ranges, polled_rows, known_rows, poller_of, tried_in, looked_in};
 ghost use Rattle.poller.specs.Calls.{applied_of, apply_of, connect_of, fail_of, reconnect_of, multi_allowed, begin_of};
 
-use super::core::{COUNTS, Core, FAST, KNOWN, LENGTHS, Looked, ORDER, POLLED, SLOW, Tried};
-use super::{Lists, Phase, core};
+use super::rest::{COUNTS, Core, FAST, KNOWN, LENGTHS, Looked, ORDER, POLLED, SLOW, Tried};
+use super::{Lists, Phase, rest};
 use config::{PidPriority, Settings};
 use control::DongleMessage;
 use link::Session;
@@ -42,8 +42,8 @@ pub fn apply(polled: &mut [[u8; 256]; POLLED], mut p: Core, m: DongleMessage) ->
     ensures polled_len { length polled.new ≡ polled_rows }
     ensures result_after { (x : Held) → poller_of (with_polled x polled.new) result ≡ apply_of (poller_of (with_polled x polled.old) p) m }
 {
-    let had = core::fast(polled, p.fast);
-    let others = core::slow(polled, p.slow);
+    let had = rest::fast(polled, p.fast);
+    let others = rest::slow(polled, p.slow);
     let lists = applied(had, others, m);
     let f = lists.fast;
     let s = lists.slow;
@@ -51,8 +51,8 @@ pub fn apply(polled: &mut [[u8; 256]; POLLED], mut p: Core, m: DongleMessage) ->
     polled[FAST] = fpids;
     let spids = s.pids;
     polled[SLOW] = spids;
-    p.fast = core::ends_of(f);
-    p.slow = core::ends_of(s);
+    p.fast = rest::ends_of(f);
+    p.slow = rest::ends_of(s);
     p
 }
 
@@ -69,7 +69,7 @@ pub fn connect(
 {
     let link = p.link;
     let mut lengths = known[LENGTHS];
-    let made = link::core::connect(&mut lengths, ranges, link, s);
+    let made = link::rest::connect(&mut lengths, ranges, link, s);
     known[LENGTHS] = lengths;
     let after = made.core;
     let said = made.said;
@@ -85,7 +85,7 @@ pub fn fail(ranges: &mut [[u8; RANGE_ROW]; RANGES], mut p: Core) -> Tried
     ensures { (x : Held) → tried_in (with_ranges x ranges.new) result ≡ fail_of (poller_of (with_ranges x ranges.old) p) }
 {
     let link = p.link;
-    let tried = link::core::fail(ranges, link);
+    let tried = link::rest::fail(ranges, link);
     let after = tried.core;
     let said = tried.said;
     p.link = after;
@@ -100,7 +100,7 @@ pub fn reconnect(mut p: Core, time: u64) -> Looked
     ensures { (x : Held) → looked_in x result ≡ reconnect_of (poller_of x p) time }
 {
     let link = p.link;
-    let checked = link::core::reconnect(link, time);
+    let checked = link::rest::reconnect(link, time);
     let after = checked.core;
     p.link = after;
     Looked {
@@ -143,12 +143,12 @@ pub fn begin(
     let features = link.features;
     let denied = link::refuses(features);
     if multi_allowed(settings.multi, denied) {
-        let had = core::fast(polled, p.fast);
-        let others = core::slow(polled, p.slow);
+        let had = rest::fast(polled, p.fast);
+        let others = rest::slow(polled, p.slow);
         let counts = polled[COUNTS];
         let lengths = known[LENGTHS];
         let plan = plan::make(had, others, counts, lengths, settings.maxpids);
-        p.plan = core::keep(polled, known, order, plan);
+        p.plan = rest::keep(polled, known, order, plan);
         p.round = super::opened(Phase::Multi, nofast);
         return p;
     }

@@ -1,6 +1,8 @@
 // The poller's state, the Rust's PollingState, and the calls that the box takes when no round is open. The steps of a
 // round are in `rounds`.
-ghost use Rattle.core.specs.Prelude.{◌≡◌};
+#![tactic(auto)]
+
+ghost use Rattle.std.specs.Prelude.{◌≡◌};
 ghost use Rattle.poller.specs.State.{opened_round, closed_round, no_query, open_of, due_of};
 
 use config::Settings;
@@ -10,10 +12,10 @@ use plan::Plan;
 
 // control messages, the connection, and a round's begin; what goes by value of a poller whose arrays are lent
 pub mod calls;
-pub mod core;
+pub mod rest;
 
 // A query: the first `count` of `pids`, and the ECU count kept for them, 0 for none.
-#[derive(Drop)]
+#[derive(Clone, Copy)]
 pub struct Query {
     pub pids: [u8; 6],
     pub count: usize,
@@ -21,7 +23,7 @@ pub struct Query {
 }
 
 // Where a round is. A result is due in the three phases so named.
-#[derive(Drop)]
+#[derive(Clone, Copy)]
 pub enum Phase {
     // no round is open
     Closed,
@@ -39,7 +41,7 @@ pub enum Phase {
 }
 
 // A round: its phase, whether its fast list was empty at begin, how many queries it has issued, and the query whose result is due.
-#[derive(Drop)]
+#[derive(Clone, Copy)]
 pub struct Round {
     pub phase: Phase,
     pub nofast: bool,
@@ -47,7 +49,7 @@ pub struct Round {
     pub due: Query,
 }
 
-#[derive(Drop)]
+#[derive(Clone, Copy)]
 pub struct Poller {
     pub fast: PidList,
     pub slow: PidList,
@@ -65,20 +67,20 @@ pub struct Poller {
 }
 
 // The poller after an outcome of connecting, and what the link says to it.
-#[derive(Drop)]
+#[derive(Clone, Copy)]
 pub struct Linked {
     pub poller: Poller,
     pub said: Connecting,
 }
 
 // The poller after a reconnect check, and whether one may be tried.
-#[derive(Drop)]
+#[derive(Clone, Copy)]
 pub struct Checked {
     pub poller: Poller,
     pub yes: bool,
 }
 
-#[derive(Drop)]
+#[derive(Clone, Copy)]
 pub struct Lists {
     pub fast: PidList,
     pub slow: PidList,

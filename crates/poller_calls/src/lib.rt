@@ -1,6 +1,8 @@
 // The box's call that takes a control message. The time is not tested here: `dispatch::call` does that before, and is the
 // box's door.
-ghost use Rattle.core.specs.Prelude.{◌≡◌, length};
+#![tactic(auto)]
+
+ghost use Rattle.std.specs.Prelude.{◌≡◌, length};
 ghost use Rattle.obd2.specs.Call.{take_control};
 ghost use Rattle.obd2.specs.Core.{Lent, with_line, box_of, answered_of};
 ghost use Rattle.obd2.specs.Done.{listing};
@@ -9,16 +11,16 @@ ghost use Rattle.poller.specs.Core.{Held, with_polled, polled_rows, poller_of};
 
 use control_line::Taken;
 use control_line::places::PLACES;
-use obd2::core::{Core, Told};
+use obd2::rest::{Core, Told};
 use obd2::{Said, telling};
-use poller::core::POLLED;
+use poller::rest::POLLED;
 
 // The poller after what was taken: a message goes into its lists.
 fn listing(
     polled: &mut [[u8; 256]; POLLED],
-    poller: poller::core::Core,
+    poller: poller::rest::Core,
     taken: Taken,
-) -> poller::core::Core
+) -> poller::rest::Core
     requires { length polled.old ≡ polled_rows }
     ensures polled_len { length polled.new ≡ polled_rows }
     ensures result_after { (x : Held) → poller_of (with_polled x polled.new) result ≡ listing (poller_of (with_polled x polled.old) poller) taken }

@@ -1,4 +1,6 @@
 // Which settings and lists of profiles the box refuses (its refusal 2).
+#![tactic(auto)]
+
 ghost use Rattle.std.specs.Prelude.{◌≡◌, ◌≤◌};
 ghost use Rattle.base.specs.Choice.{one};
 ghost use Rattle.config.specs.InForce.{in_force};
@@ -7,7 +9,7 @@ ghost use Rattle.profile_check.specs.Check.{unknown_mode, unknown_of, tally_of, 
 use config::{Profile, Profiles};
 
 // How many profiles are active normal ones, and how many have an unknown kind or priority.
-#[derive(Drop)]
+#[derive(Clone, Copy)]
 struct Tally {
     normals: usize,
     unknowns: usize,

@@ -1,4 +1,6 @@
 // The profiles come in as a lent list of records, and go into the array that the box holds.
+#![tactic(auto)]
+
 ghost use Rattle.std.specs.Prelude.{◌≡◌, ◌<◌, set};
 ghost use Rattle.profile_list.specs.Copied.{copied_of, count_of, kept_of, blanks};
 

@@ -1,9 +1,9 @@
 -- DEMAND 3, whole: what holds of every start and of every list of the box's calls, refused ones included. Statements
--- only; the proof is in `Theorem`, histories that meet every hypothesis in `Witness`.
+-- only; the proof is in proofs/Theorem, histories that meet every hypothesis in proofs/Witness.
 --
 -- What the words mean, each read from the start, the accepted calls' arguments and, of readings, the answers:
---   the manager's Fast and Slow PIDs              `readAfter`, `tracked`      agreement/specs/Claim.antt
---   rounds, asked                                 `runCall`, `markBy`, `rounds` round_robin/specs/Marks.antt
+--   the manager's Fast and Slow PIDs              `read_after`, `tracked`     agreement/specs/Claim.antt
+--   rounds, asked                                 `run_call`, `mark_by`, `rounds` round_robin/specs/Marks.antt
 --   connection, settings, "while"                 `read`, `Lasting`           round_robin/specs/Claim.antt
 --   registered, replies since, handed, deliveries `Figures`, `hands` of `Deed` readings/specs/Claim.antt
 -- Of the box itself only the poller's two lists are looked at, and which control messages wait.
@@ -14,7 +14,7 @@ use Rattle.control.specs.Speed.{Speed, Agree}
 use Rattle.control_line.specs.Ring.{waiting}
 use Rattle.pid_list.specs.Rules.{entries}
 use Rattle.rounds.specs.declared.Outcome.{Outcome}
-use Rattle.obd2.specs.Call.{Call, Calls, Made}
+use Rattle.obd2.specs.Call.{Call, Made}
 use Rattle.obd2.specs.History.{start_of, run, happened}
 use Rattle.agreement.specs.Claim.{tracked, OfRound, taking, box_after, read_after, most_calls, ending}
 use Rattle.readings.specs.Claim.{Readings}

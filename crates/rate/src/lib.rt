@@ -1,5 +1,7 @@
 // The two f32 figures of the maintenance report, step by step as the Rust computes them: the rate
 // at which a PID is consumed, and the hit rate of the cache.
+#![tactic(auto)]
+
 ghost use Rattle.std.specs.Prelude.{◌≡◌, ◌≤◌, min, max};
 ghost use Rattle.rate.specs.Rate.{seconds_of, rate_of, hit_rate_of, most_counted, longest};
 

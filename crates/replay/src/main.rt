@@ -1,16 +1,19 @@
 // Runs the box from text: a call a line in, an answer a line out, as history-format.md has them. `playing` answers a part of the
 // input. The box's arrays are locals of `main`, lent down to each call; what is small of it goes by value.
-ghost use Rattle.core.specs.Prelude.{◌≡◌, ◌≤◌, length};
+#![tactic(auto)]
+
+ghost use Rattle.std.specs.Prelude.{◌≡◌, ◌≤◌, length};
 ghost use Rattle.dispatch.specs.Dispatch.{Whole};
 ghost use Rattle.obd2.specs.Core.{lent};
 ghost use Rattle.poller.specs.Core.{held};
 
 use clients::PLACES;
-use libc::STDIN_FILENO;
 use link::ranges::{RANGE_ROW, RANGES};
 use playing::{Playing, WAITING};
-use poller::core::{KNOWN, ORDER, POLLED};
+use poller::rest::{KNOWN, ORDER, POLLED};
 use reply::rows::ROW;
+use std::io;
+use std::io::{Read, Write};
 
 // The longest line that is taken, the largest lent area, and the room for answers that wait to be written.
 const LONGEST: usize = 8191;
@@ -19,8 +22,11 @@ const AREA: usize = 4096;
 
 const ANSWERS: usize = 65536;
 
+// The part of the input that is read at a time.
+const INPUT: usize = 65536;
+
 // The box after a part of the input, and whether there may be more of it.
-#[derive(Drop)]
+#[derive(Clone, Copy)]
 struct Turn {
     playing: Playing,
     more: bool,
@@ -42,7 +48,7 @@ fn filled(input: &mut [u8], n: usize) -> usize
 }
 
 // Reads a part of the input and answers it.
-fn read_part(
+fn read_part<R: Read, W: Write>(
     replies: &mut [[u8; ROW]; 256],
     marks: &mut [[bool; 256]; PLACES],
     table: &mut [[u64; 8]; 256],
@@ -58,15 +64,16 @@ fn read_part(
     bytes: &mut [u8],
     area: &mut [u8],
     out: &mut [u8],
-) -> Turn
+    reader: &mut R,
+    writer: &mut W,
+) -> io::Result<Turn>
     requires { Whole (lent replies.old marks.old table.old slots.old (held polled.old known.old order.old ranges.old) pids.old rates.old) }
     ensures { Whole (lent replies.new marks.new table.new slots.new (held polled.new known.new order.new ranges.new) pids.new rates.new) }
 {
-    let mut input = io::large_buffer();
-    let got = libc::read(STDIN_FILENO, &mut input);
-    let n = io::count(got, &input);
+    let mut input = [0u8; INPUT];
+    let n = reader.read(&mut input)?;
     let m = filled(&mut input, n);
-    Turn {
+    Ok(Turn {
         playing: playing::answer_part(
             replies,
             marks,
@@ -84,14 +91,15 @@ fn read_part(
             bytes,
             area,
             out,
-        ),
+            writer,
+        )?,
         more: n != 0,
-    }
+    })
 }
 
 // A proved loop has to end, and nothing says that an input does: the turns are counted down from a number
 // that no run uses up.
-fn run(
+fn run<R: Read, W: Write>(
     replies: &mut [[u8; ROW]; 256],
     marks: &mut [[bool; 256]; PLACES],
     table: &mut [[u64; 8]; 256],
@@ -106,7 +114,9 @@ fn run(
     bytes: &mut [u8],
     area: &mut [u8],
     out: &mut [u8],
-)
+    reader: &mut R,
+    writer: &mut W,
+) -> io::Result<()>
     requires pids_len { length pids.old ≡ 256 }
     requires rates_len { length rates.old ≡ 256 }
 {
@@ -115,17 +125,20 @@ fn run(
     while turns > 0 {
         let turn = read_part(
             replies, marks, table, slots, polled, known, order, ranges, pids, rates, playing, line,
-            bytes, area, out,
-        );
+            bytes, area, out, reader, writer,
+        )?;
         playing = turn.playing;
         if !turn.more {
-            return;
+            return Ok(());
         }
         turns -= 1;
     }
+    Ok(())
 }
 
-fn main() {
+fn main(rt: HostRuntime) -> io::Result<()> {
+    let mut reader = rt.stdin();
+    let mut writer = rt.stdout();
     let mut line = [0u8; LONGEST];
     let mut bytes = [0u8; LONGEST];
     let mut area = [0u8; AREA];
@@ -155,5 +168,7 @@ fn main() {
         &mut bytes,
         &mut area,
         &mut out,
-    );
+        &mut reader,
+        &mut writer,
+    )
 }

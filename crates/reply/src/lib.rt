@@ -1,4 +1,6 @@
 // A reply of the dongle: one line for each control unit that answered, as the Rust's Lines.
+#![tactic(auto)]
+
 pub mod rows;
 
 ghost use Rattle.std.specs.Prelude.{◌≡◌};
@@ -15,7 +17,7 @@ pub const MAX_PIDS: usize = 6;
 // The first `lines` of `lengths` are the lines' lengths, and the lines stand one after the other from the
 // start of `bytes`. Every value has a meaning, so no two parts can contradict each other: a `lines` above
 // MAX_LINES, or lengths that come to more than MAX_BYTES, is a reply over the limits of document 01.
-#[derive(Drop)]
+#[derive(Clone, Copy)]
 pub struct Reply {
     pub lines: u8,
     pub lengths: [u8; MAX_LINES],
@@ -23,14 +25,14 @@ pub struct Reply {
 }
 
 // What one of the eight range queries brought: nothing, or a reply, possibly without lines.
-#[derive(Drop)]
+#[derive(Clone, Copy)]
 pub struct RangeReply {
     pub present: bool,
     pub reply: Reply,
 }
 
 // What one response of the dongle brings: the first `count` of `pids`, each with its reply.
-#[derive(Drop)]
+#[derive(Clone, Copy)]
 pub struct Response {
     pub count: u8,
     pub pids: [u8; MAX_PIDS],

@@ -15,7 +15,7 @@ fn put(mut row: [u8; ROW], at: usize, text: &[u8]) -> [u8; ROW]
     requires { at + length text.now ≤ row_size }
     ensures { result ≡ over row at text.now }
 {
-    bytes::copy(text, &mut row[at..]);
+    base::copy(text, &mut row[at..]);
     row
 }
 
@@ -36,9 +36,9 @@ pub fn unpack(row: [u8; ROW]) -> Reply
     ensures { result ≡ reply_in row }
 {
     let mut lengths = [0u8; MAX_LINES];
-    bytes::copy(&row[1..BYTES_AT], &mut lengths);
+    base::copy(&row[1..BYTES_AT], &mut lengths);
     let mut text = [0u8; MAX_BYTES];
-    bytes::copy(&row[BYTES_AT..], &mut text);
+    base::copy(&row[BYTES_AT..], &mut text);
     Reply {
         lines: row[0],
         lengths: lengths,

@@ -1,4 +1,6 @@
 // The report of a maintenance: how often clients consumed each PID, and how often the cache had a reading.
+#![tactic(auto)]
+
 pub mod metrics;
 pub mod rows;
 pub mod summary;
@@ -11,14 +13,14 @@ use metrics::CacheMetrics;
 use pid_table::PidInfo;
 
 // How often a PID was consumed in a second.
-#[derive(Drop)]
+#[derive(Clone, Copy)]
 pub struct Rated {
     pub pid: u8,
     pub rate: f32,
 }
 
 // The first `count` of `list`.
-#[derive(Drop)]
+#[derive(Clone, Copy)]
 pub struct Rates {
     pub list: [Rated; 256],
     pub count: u16,
@@ -79,7 +81,7 @@ fn insert(mut rates: Rates, rated: Rated) -> Rates
 }
 
 // What a maintenance answers. The mean wait stays undivided: the total and the misses.
-#[derive(Drop)]
+#[derive(Clone, Copy)]
 pub struct Report {
     // whether maintenance ran in the call; if not, there is nothing in the report
     pub ran: bool,

@@ -4,7 +4,7 @@ ghost use Rattle.report.specs.Metrics.{no_metrics, longer_by, noted_of, overlong
 
 use pid_table::WaitDuration;
 
-#[derive(Drop)]
+#[derive(Clone, Copy)]
 pub struct CacheMetrics {
     pub hits: u32,
     pub misses: u32,

@@ -7,7 +7,7 @@ ghost use Rattle.report.specs.Summary.{no_summary, report_in};
 use crate::metrics::CacheMetrics;
 use crate::{Rated, Report};
 
-#[derive(Drop)]
+#[derive(Clone, Copy)]
 pub struct Summary {
     // whether maintenance ran in the call; if not, the numbers are no report
     pub ran: bool,

@@ -1,17 +1,19 @@
 // The box's calls of a round: its begin, its steps and their results. The time is not tested here:
 // `dispatch::call` does that before, and is the box's door.
-ghost use Rattle.core.specs.Prelude.{◌≡◌, ℕ, not, ◌||◌, List, length};
-ghost use Rattle.obd2.specs.Call.{begin, next, result};
+#![tactic(auto)]
+
+ghost use Rattle.std.specs.Prelude.{◌≡◌, ℕ, not, ◌||◌, List, length};
+ghost use Rattle.obd2.specs.Call.{begin, next, result as result_of};
 ghost use Rattle.obd2.specs.Core.{Lent, with_poller, box_of, answered_of};
 ghost use Rattle.obd2.specs.Answers.{Answers};
 ghost use Rattle.poller.specs.Core.{held, polled_rows, known_rows};
 ghost use Rattle.poller.specs.State.{open_of, due_of};
 
 use link::ranges::{RANGE_ROW, RANGES};
-use obd2::core::{Core, Told};
+use obd2::rest::{Core, Told};
 use obd2::{Said, telling};
 use poller::Round;
-use poller::core::{KNOWN, ORDER, POLLED};
+use poller::rest::{KNOWN, ORDER, POLLED};
 use rounds::Outcome;
 
 // A round is begun, with the settings of now.
@@ -24,9 +26,9 @@ pub fn begin(
 ) -> Told
     requires polled_len { length polled.old ≡ polled_rows }
     requires known_len { length known.old ≡ known_rows }
-    ensures* polled_after { λ _. ⌜ length polled.new ≡ polled_rows ⌝ }
-    ensures* known_after { λ _. ⌜ length known.new ≡ known_rows ⌝ }
-    ensures* fact { λ r. ⌜ ((x : Lent) (ranges : List (List ℕ)) → Answers (box_of (with_poller x (held polled.old known.old order.old ranges)) core) (begin time) (answered_of (with_poller x (held polled.new known.new order.new ranges)) r)) ⌝ }
+    ensures polled_after { length polled.new ≡ polled_rows }
+    ensures known_after { length known.new ≡ known_rows }
+    ensures fact { ((x : Lent) (ranges : List (List ℕ)) → Answers (box_of (with_poller x (held polled.old known.old order.old ranges)) core) (begin time) (answered_of (with_poller x (held polled.new known.new order.new ranges)) result)) }
 {
     let poller = core.poller;
     let round = poller.round;
@@ -42,7 +44,7 @@ pub fn begin(
 
 // Whether a step of the round may not be asked for: none is open, or a result is due.
 fn out_of_turn(round: Round) -> bool
-    ensures* { λ r. ⌜ r ≡ (not (open_of round.phase) || due_of round.phase) ⌝ }
+    ensures { result ≡ (not (open_of round.phase) || due_of round.phase) }
 {
     if !poller::open(round) {
         return true;
@@ -58,7 +60,7 @@ pub fn next(
     mut core: Core,
     time: u64,
 ) -> Told
-    ensures* { λ r. ⌜ ((x : Lent) (ranges : List (List ℕ)) → let y = with_poller x (held polled.now known.now order.now ranges) in Answers (box_of y core) (next time) (answered_of y r)) ⌝ }
+    ensures { ((x : Lent) (ranges : List (List ℕ)) → let y = with_poller x (held polled.now known.now order.now ranges) in Answers (box_of y core) (next time) (answered_of y result)) }
 {
     let poller = core.poller;
     let round = poller.round;
@@ -86,9 +88,9 @@ pub fn result(
 ) -> Told
     requires polled_len { length polled.old ≡ polled_rows }
     requires known_len { length known.old ≡ known_rows }
-    ensures* polled_after { λ _. ⌜ length polled.new ≡ polled_rows ⌝ }
-    ensures* known_after { λ _. ⌜ length known.new ≡ known_rows ⌝ }
-    ensures* fact { λ r. ⌜ ((x : Lent) (order : List ℕ) → Answers (box_of (with_poller x (held polled.old known.old order ranges.old)) core) (result time outcome) (answered_of (with_poller x (held polled.new known.new order ranges.new)) r)) ⌝ }
+    ensures polled_after { length polled.new ≡ polled_rows }
+    ensures known_after { length known.new ≡ known_rows }
+    ensures fact { ((x : Lent) (order : List ℕ) → Answers (box_of (with_poller x (held polled.old known.old order ranges.old)) core) (result_of time outcome) (answered_of (with_poller x (held polled.new known.new order ranges.new)) result)) }
 {
     let poller = core.poller;
     let round = poller.round;

@@ -1,4 +1,4 @@
--- Demand 3, the rounds: what is read off a history, and the claim. The proof is in `Theorem`.
+-- Demand 3, the rounds: what is read off a history, and the claim. The proof is in proofs/Theorem.
 use Rattle.std.specs.Prelude.{Bool, true, false, ◌&&◌, List, [], ◌∷◌, map, ◌≡◌, ℕ, ◌+◌, ◌*◌, ◌<◌, ◌≤◌, max, length, take, drop}
 use Rattle.agreement.specs.Claim.{reading_at}
 use Rattle.base.specs.Choice.{pick}
@@ -58,7 +58,7 @@ unfoldable pub seen_over : Seen → List Event → Seen
 seen_over k [] = k
 seen_over k (e ∷ h) = seen_over (seen k e) h
 
--- What is so of a box. `seen-run` in `Reading`: what is read over any history from a start is so of the box after it.
+-- What is so of a box. `seen_run` in proofs/Reading: what is read over any history from a start is so of the box after it.
 abbrev pub seen_at : State → Seen
 seen_at s = record { up = s.poller.link.connected; multi = s.poller.link.features.multi; settings = s.settings }
 

@@ -1,8 +1,2 @@
 pub mod Marks
 pub mod Claim
-pub mod Machine
-pub mod Covers
-pub mod Reading
-pub mod Runs
-pub mod Steps
-pub mod Theorem

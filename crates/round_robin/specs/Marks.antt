@@ -77,7 +77,7 @@ unfoldable pub marks : Running → List Event → List Mark
 marks k [] = []
 marks k (e ∷ h) = pick (accepted e) (mark_by k e.call) aside ∷ marks (pick (accepted e) (run_call k e.call) k) h
 
--- By the answers: the same marks. `marks-told` in `Runs`.
+-- By the answers: the same marks. `marks_told` in proofs/Runs.
 abbrev pub next_mark : Said → Query → Mark
 next_mark said.Started q = aside
 next_mark (said.Client n) q = aside
@@ -108,7 +108,7 @@ mark_of c (Accepted a) q = mark_done c a q
 abbrev pub mark : Event → Mark
 mark e = mark_of e.call e.answer e.details.query
 
--- Whether a round is open after a mark, and after several. `open-run` in `Reading`: so it is of the box.
+-- Whether a round is open after a mark, and after several. `open_run` in proofs/Reading: so it is of the box.
 abbrev pub open_by : Mark → Bool → Bool
 open_by begun b = true
 open_by (asked ps) b = b

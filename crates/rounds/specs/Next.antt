@@ -1,5 +1,5 @@
 -- What a round asks next, and its end: document 01, "Rounds (poller)", third to fifth paragraph.
-use Rattle.core.specs.Prelude.{ℕ, ◌-◌, Bool, ◌&&◌, ◌||◌, [], ◌∷◌, ◌==◌, nat_le, slice_index}
+use Rattle.std.specs.Prelude.{ℕ, ◌-◌, Bool, ◌&&◌, ◌||◌, [], ◌∷◌, ◌==◌, nat_le, slice_index}
 use Rattle.base.specs.Choice.{pick}
 use Rattle.base.specs.Count.{more_of}
 use Rattle.config.specs.declared.Settings.{Settings}

@@ -1,5 +1,5 @@
 -- Document 01's numbers for a result's kinds, and its values for what a step asks or ends with.
-use Rattle.core.specs.Prelude.{ℕ, List, [], ◌∷◌, ◌++◌, slice_index}
+use Rattle.std.specs.Prelude.{ℕ, List, [], ◌∷◌, ◌++◌, slice_index}
 use Rattle.poller.specs.State.{pids_of}
 use Rattle.poller.specs.declared.Query.{Query}
 use Rattle.rounds.specs.declared.Kind.{Kind}

@@ -1,5 +1,5 @@
 // What a round asks next, and its end.
-ghost use Rattle.core.specs.Prelude.{◌≡◌, ℕ, ◌&&◌, List, [], ◌∷◌, slice_index_or};
+ghost use Rattle.std.specs.Prelude.{◌≡◌, ℕ, ◌&&◌, List, [], ◌∷◌, slice_index_or};
 ghost use Rattle.plan.specs.Steps.{chunk_of};
 ghost use Rattle.poller.specs.Core.{Held, held, with_polled, counts_row, poller_of};
 ghost use Rattle.rounds.specs.Core.{stepped_in};
@@ -9,7 +9,7 @@ ghost use Rattle.rounds.specs.Next.{slow_due, issue_of, end_of, slow_of, first_o
 use super::{Moved, Step};
 use config::Settings;
 use plan::Chunk;
-use poller::core::{COUNTS, Core, KNOWN, ORDER, POLLED};
+use poller::rest::{COUNTS, Core, KNOWN, ORDER, POLLED};
 use poller::{Phase, Query, Round};
 
 // The one PID of a single query.
@@ -91,11 +91,11 @@ fn slow(polled: &[[u8; 256]; POLLED], mut p: Core, time: u64) -> Moved
     if !slow_due(settings, p.round.nofast, time, p.clock, p.requests) {
         return end(p);
     }
-    let list = poller::core::slow(polled, p.slow);
+    let list = poller::rest::slow(polled, p.slow);
     let picked = pid_list::next(list);
     let moved = picked.list;
     p.requests = 0;
-    p.slow = poller::core::ends_of(moved);
+    p.slow = poller::rest::ends_of(moved);
     let link = p.link;
     if sendable(picked.found, link.connected) {
         return issue(polled, p, Phase::SlowDue, single(picked.pid));
@@ -108,14 +108,14 @@ fn slow(polled: &[[u8; 256]; POLLED], mut p: Core, time: u64) -> Moved
 fn first(polled: &[[u8; 256]; POLLED], mut p: Core, time: u64) -> Moved
     ensures { (x : Held) → stepped_in (with_polled x polled.now) result ≡ first_of (poller_of (with_polled x polled.now) p) time }
 {
-    let list = poller::core::fast(polled, p.fast);
+    let list = poller::rest::fast(polled, p.fast);
     let picked = pid_list::next(list);
     if !picked.found {
         return slow(polled, p, time);
     }
     let moved = picked.list;
     let requests = base::more(p.requests);
-    p.fast = poller::core::ends_of(moved);
+    p.fast = poller::rest::ends_of(moved);
     p.requests = requests;
     issue(polled, p, Phase::FastDue, single(picked.pid))
 }
@@ -129,14 +129,14 @@ fn multi(
 ) -> Moved
     ensures { (ranges : List (List ℕ)) → let x = held polled.now known.now order.now ranges in stepped_in x result ≡ multi_of (poller_of x p) }
 {
-    let plan = poller::core::plan(polled, known, order, p.plan);
+    let plan = poller::rest::plan(polled, known, order, p.plan);
     let taken = plan::take(plan);
     let chunk = taken.chunk;
     if chunk.count == 0 {
         return end(p);
     }
     let left = taken.plan;
-    p.plan = poller::core::course_of(left);
+    p.plan = poller::rest::course_of(left);
     issue(polled, p, Phase::MultiDue, chunk)
 }
 

@@ -1,5 +1,5 @@
 // What a result teaches and ends.
-ghost use Rattle.core.specs.Prelude.{◌≡◌, ℕ, Bool, List, length};
+ghost use Rattle.std.specs.Prelude.{◌≡◌, ℕ, Bool, List, length};
 ghost use Rattle.link.specs.Core.{link_of};
 ghost use Rattle.poller.specs.Core.{held, polled_rows, known_rows, poller_of};
 ghost use Rattle.rounds.specs.Result.{is_lost, teach_of, learn_of, ends_multi, phase_after, round_after, clock_after, link_after, result_of};
@@ -7,7 +7,7 @@ ghost use Rattle.rounds.specs.Result.{is_lost, teach_of, learn_of, ends_multi, p
 use super::{Kind, Learnt, Lessons, Outcome};
 use link::Features;
 use link::ranges::{RANGE_ROW, RANGES};
-use poller::core::{COUNTS, Core, KNOWN, LENGTHS, POLLED};
+use poller::rest::{COUNTS, Core, KNOWN, LENGTHS, POLLED};
 use poller::{Phase, Query, Round};
 
 // Whether the connection was lost.
@@ -51,15 +51,15 @@ fn learn(mut k: Lessons, q: Query, learnt: [Learnt; 6]) -> Lessons
 // The connection after the result, its known lengths apart.
 fn link_after(
     ranges: &mut [[u8; RANGE_ROW]; RANGES],
-    mut l: link::core::Core,
+    mut l: link::rest::Core,
     features: Features,
     gone: bool,
-) -> link::core::Core
+) -> link::rest::Core
     ensures { (lengths taught : List Bool) → link_of taught ranges.new result ≡ link_after (link_of lengths ranges.old l) taught features gone }
 {
     l.features = features;
     if gone {
-        return link::core::lose(ranges, l);
+        return link::rest::lose(ranges, l);
     }
     l
 }

@@ -1,5 +1,5 @@
 -- The start, as the program tests its refusals: what the proof of the function cites.
-use Rattle.core.specs.Prelude.{◌≡◌, ℕ, Bool, true, false, ◌||◌, eqb, [], ◌∷◌}
+use Rattle.std.specs.Prelude.{◌≡◌, ℕ, Bool, true, false, ◌||◌, eqb, [], ◌∷◌}
 use Rattle.std.proofs.Math.Path.{ap}
 use Rattle.std.proofs.Common.{sym, arith, le-ltb, eqb-true}
 use Rattle.base.specs.Choice.{cases}
@@ -15,14 +15,14 @@ use Rattle.control_line.specs.declared.ControlLine.{ControlLine}
 use Rattle.control_line.specs.declared.places.Ends.{Ends}
 use Rattle.desk.specs.Core.{desk_of}
 use Rattle.desk.specs.Rules.{start_desk}
-use Rattle.desk.specs.declared.core.Core.{Core as DeskCore}
+use Rattle.desk.specs.declared.rest.Core.{Core as DeskCore}
 use Rattle.manager.specs.Calls.{start_of as startManager}
 use Rattle.manager.specs.Rows.{answer_of}
 use Rattle.manager.specs.declared.Answer.{Answer as Managed}
 use Rattle.manager.specs.declared.rows.Handled.{Handled}
 use Rattle.poller.specs.Core.{poller_of}
 use Rattle.poller.specs.State.{start_of as startPoller}
-use Rattle.poller.specs.declared.core.Core.{Core as PollerCore}
+use Rattle.poller.specs.declared.rest.Core.{Core as PollerCore}
 use Rattle.report.specs.Summary.{none_in}
 use Rattle.profile_check.specs.Check.{bad_profiles, unknown_mode}
 use Rattle.obd2.specs.Core.{Lent, box_of, answered_of, no_notes}
@@ -32,8 +32,8 @@ use Rattle.obd2.specs.State.{answered, no_details, started}
 use Rattle.obd2.specs.declared.Answer.TheVariants.{Accepted}
 use Rattle.obd2.specs.declared.Answered.{Answered}
 use Rattle.obd2.specs.declared.Said.TheVariants.{Started}
-use Rattle.obd2.specs.declared.core.Core.{Core}
-use Rattle.obd2.specs.declared.core.Notes.{Notes}
+use Rattle.obd2.specs.declared.rest.Core.{Core}
+use Rattle.obd2.specs.declared.rest.Notes.{Notes}
 
 -- No time is before 0.
 pub start_is : (t : ℕ) (st : Settings) (ps : Profiles) {r : Answered}

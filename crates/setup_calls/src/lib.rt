@@ -1,6 +1,8 @@
 // The box's start, and the call that changes its settings. Neither has a report, and the settings send nothing.
 // The time of a settings call is not tested here: `dispatch::call` does that before.
-ghost use Rattle.core.specs.Prelude.{◌≡◌, ℕ, List, length};
+#![tactic(auto)]
+
+ghost use Rattle.std.specs.Prelude.{◌≡◌, ℕ, List, length};
 ghost use Rattle.std.specs.Prelude.{Float};
 ghost use Rattle.clients.specs.Rules.{places};
 ghost use Rattle.config.specs.Blank.{no_profiles};
@@ -15,10 +17,10 @@ ghost use Rattle.poller.specs.Core.{held, polled_rows, known_rows};
 use clients::PLACES;
 use config::{Profiles, Settings};
 use link::ranges::{RANGE_ROW, RANGES};
-use obd2::core::{Core, Told};
+use obd2::rest::{Core, Told};
 use obd2::{Answer, Said, answers, telling};
 use passes::Terms;
-use poller::core::{KNOWN, ORDER, POLLED};
+use poller::rest::{KNOWN, ORDER, POLLED};
 use reply::rows::ROW;
 
 // The box before its first call, whatever its arrays had. An empty line has room for all that a start sends.
@@ -51,8 +53,8 @@ fn started(
     let sent = managed.outbox;
     let nothing = control_line::places::clear(slots);
     let line = control_line::places::push_all(slots, nothing, sent);
-    let desk = desk::core::start(replies, marks);
-    let poller = poller::core::start(polled, known, order, ranges, time);
+    let desk = desk::rest::start(replies, marks);
+    let poller = poller::rest::start(polled, known, order, ranges, time);
     Core {
         desk: desk,
         manager: manager,

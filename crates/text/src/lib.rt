@@ -1,4 +1,6 @@
 // Text as bytes: cut at a byte, compared with a word, and put together in lent memory.
+#![tactic(auto)]
+
 ghost use Rattle.std.specs.Prelude.{◌≡◌};
 ghost use Rattle.base.specs.Times.{times};
 ghost use Rattle.text.specs.Cut.{place_of, head_of, tail_of, same_of};
@@ -82,6 +84,6 @@ pub fn put(out: &mut [u8], at: usize, s: &[u8]) -> usize
     if out.len() - at < s.len() {
         return at;
     }
-    bytes::copy(s, &mut out[at..]);
+    base::copy(s, &mut out[at..]);
     at + s.len()
 }

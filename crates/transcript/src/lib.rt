@@ -1,4 +1,6 @@
 // What the program `commands` writes: each line of its input, the line's class and its number.
+#![tactic(auto)]
+
 ghost use Rattle.std.specs.Prelude.{◌≡◌, ◌+◌, ◌≤◌, length};
 ghost use Rattle.base.specs.Write.{over};
 ghost use Rattle.command.specs.Classify.{command_of};
@@ -8,28 +10,28 @@ use command::Command;
 
 // The start of the line that is being read: the first `kept` of `head`. No command's class depends on
 // more than six bytes, so a line may be of any length.
-#[derive(Drop)]
+#[derive(Clone, Copy)]
 pub struct Line {
     pub head: [u8; 6],
     pub kept: u8,
 }
 
 // The first `len` of `bytes`.
-#[derive(Drop)]
+#[derive(Clone, Copy)]
 pub struct Text {
     pub bytes: [u8; 9],
     pub len: usize,
 }
 
 // The line after a part of the input, how many bytes of it were used, and how many were written.
-#[derive(Drop)]
+#[derive(Clone, Copy)]
 pub struct Fed {
     pub line: Line,
     pub used: usize,
     pub written: usize,
 }
 
-#[derive(Drop)]
+#[derive(Clone, Copy)]
 struct Stepped {
     line: Line,
     at: usize,
@@ -109,7 +111,7 @@ fn put(t: Text, out: &mut [u8], at: usize) -> usize
 {
     let bytes = t.bytes;
     let n = t.len;
-    bytes::copy(&bytes[..n], &mut out[at..]);
+    base::copy(&bytes[..n], &mut out[at..]);
     at + n
 }
 

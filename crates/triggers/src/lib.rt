@@ -1,4 +1,6 @@
 // Triggered profiles, switched off by a value above their threshold (the Rust's check_triggered_auto_disable).
+#![tactic(auto)]
+
 ghost use Rattle.std.specs.Prelude.{◌≡◌};
 ghost use Rattle.triggers.specs.Rules.{in_force_of, crossed_of, switched_of, switch_of, notice_of};
 

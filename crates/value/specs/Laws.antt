@@ -78,9 +78,9 @@ module _ (r : Reply) where
 
   -- Data that is present.
   module _ (n : ℕ) (h : n ≤ first_length_of r - head) where
-    pub data_length_law : length r.bytes ≡ max_bytes → n ≤ max_width → length (data_of n r) ≡ n
+    pub data_length : length r.bytes ≡ max_bytes → n ≤ max_width → length (data_of n r) ≡ n
     unfolding data_of first_line
-    data_length_law k w = rw (length-take, length-drop, length-take, k) (omega arith)
+    data_length k w = rw (length-take, length-drop, length-take, k) (omega arith)
 
     pub data_at : (i : ℕ) → i < n → get_or (data_of n r) i 0 ≡ get_or r.bytes (i + head) 0
     unfolding data_of first_line

@@ -1,5 +1,7 @@
 // The value of a reply: what thresholds, the stored revs and a response's answer go by. The Rust folds up to four bytes of
 // the first line, whatever the PID; here what stands behind J1979's data length is left out, since some vans pad the line.
+#![tactic(auto)]
+
 ghost use Rattle.std.specs.Prelude.{◌≡◌};
 ghost use Rattle.value.specs.Rules.{width_of, used_of, value_by, value_of};
 

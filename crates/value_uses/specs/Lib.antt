@@ -1,3 +1,1 @@
 pub mod Claim
-pub mod Response
-pub mod Theorem

@@ -1,5 +1,5 @@
 -- The desk after collect and give up, what an accepted collect found, and what it hands out.
-use Rattle.core.specs.Prelude.{◌≡◌, ℕ, ◌-◌, ◌≤◌, Bool, true, not, ◌&&◌, ◌==◌}
+use Rattle.std.specs.Prelude.{◌≡◌, ℕ, ◌-◌, ◌≤◌, Bool, true, not, ◌&&◌, ◌==◌}
 use Rattle.base.specs.Choice.{pick}
 use Rattle.clients.specs.Rules.{idle}
 use Rattle.desk.specs.Rules.{registered, fresh, wait_of, stored}

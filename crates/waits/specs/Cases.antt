@@ -1,5 +1,5 @@
 -- Each definition of `Rules`, case by case: what the proofs of the functions and of the laws cite.
-use Rattle.core.specs.Prelude.{◌≡◌, ℕ, ◌-◌, true, false, List, length, ◌≢◌, nat_lt}
+use Rattle.std.specs.Prelude.{◌≡◌, ℕ, ◌-◌, true, false, List, length, ◌≢◌, nat_lt}
 use borrow.Author.Tests.{ne_eqb}
 use Rattle.base.specs.Refusal.{first_of}
 use Rattle.clients.specs.Rules.{taken_of, idled_of}

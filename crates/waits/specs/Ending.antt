@@ -1,5 +1,5 @@
 -- Collect and give up over lent replies and marks: their answers as those of `Rules`, case by case.
-use Rattle.core.specs.Prelude.{◌≡◌, ℕ, ◌-◌, ◌<◌, ◌≤◌, Bool, true, false, ltb, List, [], length, replicate, ◌≢◌, nat_lt, slice_index_or, slice_set}
+use Rattle.std.specs.Prelude.{◌≡◌, ℕ, ◌-◌, ◌<◌, ◌≤◌, Bool, true, false, ltb, List, [], length, replicate, ◌≢◌, nat_lt, slice_index_or, slice_set}
 use Rattle.std.proofs.Common.{ap, sym, ◌∙◌, arith}
 use Rattle.clients.specs.Rules.{places, seat_of, taken_of, idled_of}
 use Rattle.clients.specs.Seats.{seated, no_seat, clients_of, taken_marks}
@@ -9,7 +9,7 @@ use Rattle.desk.specs.Rules.{client_of, fresh, wait_of, stored, put_client}
 use Rattle.desk.specs.Core.{desk_of, with_seats}
 use Rattle.desk.specs.Held.{held_reply, held_missing, held_known, held_is, held_wait, held_fresh, held_seat_put, held_both_put}
 use Rattle.desk.specs.declared.Desk.{Desk}
-use Rattle.desk.specs.declared.core.Core.{Core}
+use Rattle.desk.specs.declared.rest.Core.{Core}
 use Rattle.reply.specs.Rules.{max_lines, size_of, filled_of}
 use Rattle.reply.specs.Rows.{reply_in}
 use Rattle.reply.specs.declared.Reply.{Reply}

@@ -1,5 +1,5 @@
 -- Collect and give up (document 01, "Client cache").
-use Rattle.core.specs.Prelude.{ℕ, ◌-◌, not, List, [], ◌∷◌, length, replicate, ◌==◌, nat_lt}
+use Rattle.std.specs.Prelude.{ℕ, ◌-◌, not, List, [], ◌∷◌, length, replicate, ◌==◌, nat_lt}
 use Rattle.base.specs.Choice.{pick}
 use Rattle.base.specs.Refusal.{Rows, first_of}
 use Rattle.clients.specs.Rules.{taken_of, idled_of}

@@ -1,18 +1,18 @@
 // How a client's wait ends, with the newest replies and the clients' fresh marks lent: collect and give up.
-ghost use Rattle.core.specs.Prelude.{◌≡◌, ℕ, Bool, List, length};
+ghost use Rattle.std.specs.Prelude.{◌≡◌, ℕ, Bool, List, length};
 ghost use Rattle.clients.specs.Rules.{places};
 ghost use Rattle.desk.specs.Core.{desk_of};
 ghost use Rattle.waits.specs.Rules.{collect_of, collect_area, give_up_of};
 ghost use Rattle.waits.specs.Ending.{not_handed, handed, collected_in, given_up_in};
 
 use clients::PLACES;
-use desk::core::Core;
+use desk::rest::Core;
 use reply::Reply;
 use reply::rows::ROW;
 
 // What a collect answers. The reading's PID, and the wait since the ask: what Consumed names. The lengths are those of
 // the lines at the start of the lent area.
-#[derive(Drop)]
+#[derive(Clone, Copy)]
 pub struct Handed {
     pub core: Core,
     pub refusal: u8,
@@ -23,7 +23,7 @@ pub struct Handed {
 }
 
 // What a give up answers: NO DATA, unless it is refused.
-#[derive(Drop)]
+#[derive(Clone, Copy)]
 pub struct Ended {
     pub core: Core,
     pub refusal: u8,

@@ -1,11 +1,13 @@
 // How a client's wait ends: collect and give up (the Rust's get_cached_value from where it blocks).
+#![tactic(auto)]
+
 pub mod ending;
 
 use desk::Desk;
 
 // The reading's PID, and the wait since the ask: what Consumed names. The lengths are those of the lines at the
 // start of the lent area.
-#[derive(Drop)]
+#[derive(Clone, Copy)]
 pub struct Collected {
     pub desk: Desk,
     pub refusal: u8,
@@ -16,7 +18,7 @@ pub struct Collected {
 }
 
 // The answer is NO DATA, unless the call is refused.
-#[derive(Drop)]
+#[derive(Clone, Copy)]
 pub struct GivenUp {
     pub desk: Desk,
     pub refusal: u8,

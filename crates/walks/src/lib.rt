@@ -1,1 +1,2 @@
-// Steps that the proofs by hand share, of functions over lent records. There is no code here.
+// Steps that proofs by hand shared, of functions over lent records. There is no code here, and nothing cites them now.
+#![tactic(auto)]

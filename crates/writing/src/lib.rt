@@ -1,5 +1,7 @@
 // Texts written into lent memory one behind the other, as far as there is room: what is written is always the
 // start of the whole, and all of it where the memory is long enough.
+#![tactic(auto)]
+
 ghost use Rattle.std.specs.Prelude.{[], ◌∷◌};
 ghost use Rattle.numeral.specs.Decimal.{decimal_text};
 ghost use Rattle.writing.specs.Fill.{Wrote};

@@ -1,4 +1,6 @@
 // Lists written into lent memory, parted by commas, as far as there is room.
+#![tactic(auto)]
+
 ghost use Rattle.std.specs.Prelude.{◌≡◌};
 ghost use Rattle.writing.specs.Fill.{Wrote};
 ghost use Rattle.writing_lists.specs.Parted.{comma_text, none_text, pids_text, numbers_text};

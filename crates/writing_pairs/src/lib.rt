@@ -1,4 +1,6 @@
 // Bytes and words written into lent memory as hex digits, one behind the other, as far as there is room.
+#![tactic(auto)]
+
 ghost use Rattle.std.specs.Prelude.{[], ◌∷◌, ◌≡◌};
 ghost use Rattle.std.specs.Float.{binary32};
 ghost use Rattle.std.specs.Float.Ieee.{to_bits};

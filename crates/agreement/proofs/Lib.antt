@@ -1,0 +1,4 @@
+pub mod Good
+pub mod Settles
+pub mod ReadOff
+pub mod Theorem

@@ -1,0 +1,71 @@
+use Rattle.std.specs.Prelude.{◌≡◌, length}
+use mathlib.Core.Path.{ap, ◌∙◌}
+use native.Mathlib.Omega.{arith}
+use lib.ListN.{length-set}
+use borrow.Author.Tests.{lt-ltb, le-ltb}
+use Rattle.clients.specs.Rules.{places}
+use Rattle.cache.specs.Asking.{asked_in, stranger_asks, busy_asks, short_asks, reads, begins}
+use borrow.Author.Rules.{rules}
+use Rattle.cache.proofs.asking.ask_cache.Goals as goal
+use Rattle.cache.proofs.asking.ask_cache.Goals.{Else-at-ge-PLACES}
+
+whole : (c : Else-at-ge-PLACES) → length c.args.core.clients ≡ places
+whole c = search rules
+
+pub returns-then-at-ge-PLACES : goal.returns-then-at-ge-PLACES
+returns-then-at-ge-PLACES c =
+    let f = c.find-at in
+    let a = c.args in
+    let p = stranger_asks a.replies.now a.marks.now a.core a.number f.result f.ensures a.time a.pid a.area.now c.if-at-ge-PLACES.true in
+    record {
+      marks_len = search rules;
+      result_after = ap (asked_in a.replies.now a.marks.now) c.refuse.ensures ∙ p.0;
+      area_after = p.1;
+    }
+
+pub returns-then-wait : goal.returns-then-wait
+returns-then-wait c =
+    let f = c.find-at in
+    let a = c.args in
+    let p = busy_asks a.replies.now a.marks.now a.core a.number f.result f.ensures a.time a.pid a.area.now c.if-at-ge-PLACES.false (whole (goal.at.returns-then-wait c).Else-at-ge-PLACES) c.if-wait.true in
+    record {
+      marks_len = search rules;
+      result_after = ap (asked_in a.replies.now a.marks.now) c.refuse-then-wait.ensures ∙ p.0;
+      area_after = p.1;
+    }
+
+pub returns-then-area-size : goal.returns-then-area-size
+returns-then-area-size c =
+    let f = c.find-at in
+    let a = c.args in
+    let s = lt-ltb _ _ (rw (c.size.ensures, c.unpack-out.ensures) at c.if-area-size.true) in
+    let p = short_asks a.replies.now a.marks.now a.core a.number f.result f.ensures a.time a.pid a.area.now c.if-at-ge-PLACES.false (whole (goal.at.returns-then-area-size c).Else-at-ge-PLACES) c.if-wait.false c.if-marks-at.true s in
+    record {
+      marks_len = search rules;
+      result_after = ap (asked_in a.replies.now a.marks.now) c.refuse-then-area-size.ensures ∙ p.0;
+      area_after = p.1;
+    }
+
+pub returns-then-marks-at : goal.returns-then-marks-at
+returns-then-marks-at c =
+    let f = c.find-at in
+    let a = c.args in
+    let s = le-ltb _ _ (rw (c.size.ensures, c.unpack-out.ensures) at c.if-area-size.false) in
+    let l : length a.marks.now ≡ places = search rules in
+    let p = reads a.replies.now a.marks.now a.core a.number f.result f.ensures a.time a.pid a.area.now c.if-at-ge-PLACES.false (whole (goal.at.returns-then-marks-at c).Else-at-ge-PLACES) c.if-wait.false c.if-marks-at.true s (omega arith) in
+    record {
+      marks_len = simp length-set l;
+      result_after = ap (asked_in a.replies.now _) c.tell.ensures ∙ rw c.unpack-out.ensures p.0;
+      area_after = c.copy.ensures ∙ rw c.unpack-out.ensures p.1;
+    }
+
+pub returns : goal.returns
+returns c =
+    let f = c.find-at in
+    let a = c.args in
+    let p = begins a.replies.now a.marks.now a.core a.number f.result f.ensures a.time a.pid a.area.now c.if-at-ge-PLACES.false (whole (goal.at.returns c).Else-at-ge-PLACES) c.if-wait.false c.begin_wait-waiting.result c.begin_wait-waiting.ensures c.if-marks-at.false in
+    record {
+      marks_len = search rules;
+      result_after = ap (asked_in a.replies.now a.marks.now) c.tell-2.ensures ∙ rw c.empty.ensures p.0;
+      area_after = p.1;
+    }

@@ -1,0 +1,15 @@
+use borrow.Author.Tests.{lt-ltb, le-ltb}
+use Rattle.base.specs.Each.{map_set}
+use Rattle.control_line.specs.Rows.{line_of, slot_at, read_back}
+use Rattle.control_line.specs.Ring.{push_of}
+use Rattle.control_line.proofs.places.push.Goals as goal
+
+-- src/lib.rt:55:9
+pub returns-then-ends-lt1024 : goal.returns-then-ends-lt1024
+unfolding line_of push_of
+returns-then-ends-lt1024 c = rw (lt-ltb _ _ c.if-ends-lt1024.true, map_set slot_at, c.row_of-row.ensures, read_back)
+
+-- src/lib.rt:47:1
+pub returns : goal.returns
+unfolding line_of push_of
+returns c = rw (le-ltb _ _ c.if-ends-lt1024.false)

@@ -1,0 +1,84 @@
+use Rattle.std.specs.Prelude.{◌≡◌}
+use mathlib.Core.Path.{refl, ap, sym, ◌∙◌}
+use Rattle.control_line.specs.Rows.{line_of}
+use Rattle.manager.specs.Rows.{manager_of}
+use Rattle.manager.specs.declared.Event.TheVariants.{Nothing}
+use Rattle.manager_calls.specs.Send.{back_manager, back_line, back_report, no_ran}
+use Rattle.manager_calls.specs.Settle.{sent_refused, sent_done, handed_back, own_settled}
+use Rattle.base.specs.Refusal.{first_none}
+use Rattle.obd2.specs.Call.{Leave}
+use Rattle.obd2.specs.Core.{lent, box_of}
+use Rattle.obd2.specs.Done.{manager_by}
+use Rattle.obd2.specs.Refusals.{manager_rows}
+use Rattle.passes.specs.declared.Terms.{Terms}
+use Rattle.report.specs.declared.summary.Summary.{Summary}
+use Rattle.desk_calls.proofs.leaving.leave.Goals as goal
+
+-- The clauses, each under its name.
+named_marks_len_2_table_len_2_pids_len_2_rates_len_2_pids_unchanged_rates_unchanged_by_index : {A B C D E F G : Type 0} → A × (B × (C × (D × (E × (F × G))))) → record { marks_len_2 : A; table_len_2 : B; pids_len_2 : C; rates_len_2 : D; pids_unchanged : E; rates_unchanged : F; by_index : G }
+named_marks_len_2_table_len_2_pids_len_2_rates_len_2_pids_unchanged_rates_unchanged_by_index p = record { marks_len_2 = p.0; table_len_2 = p.1.0; pids_len_2 = p.1.1.0; rates_len_2 = p.1.1.1.0; pids_unchanged = p.1.1.1.1.0; rates_unchanged = p.1.1.1.1.1.0; by_index = p.1.1.1.1.1.1 }
+
+pub returns-then-sent : goal.returns-then-sent
+unfolding manager_by manager_rows
+returns-then-sent c =
+    named_marks_len_2_table_len_2_pids_len_2_rates_len_2_pids_unchanged_rates_unchanged_by_index (let a = c.args in
+    let k = a.core in
+    let e = c.send-sent.ensures in
+    let t : Terms = record { profiles = k.profiles; settings = k.settings; now = a.time } in
+    let q = e.result_after in
+    let h = c.if-sent.true in
+    let z = no_ran _ _ _ (back_report (manager_of a.table.now k.manager) (line_of a.slots.now k.line) t Nothing _ q h) in (
+      c.requires.marks_len,
+      (
+        e.table_len_2,
+        (
+          e.pids_len_2,
+          (
+            e.rates_len_2,
+            (
+              λ y. e.pids_unchanged z,
+              (
+                λ y. e.rates_unchanged z,
+                λ replies polling.
+                    let x = lent replies a.marks.now a.table.now a.slots.now polling a.pids.now a.rates.now in
+                    let s = box_of x k in
+                    own_settled s a.time (Leave a.number) 0 (sym first_none) refl
+                    (sent_refused s a.time (manager_by s (Leave a.number)) _ q h
+                    (handed_back x (lent replies a.marks.now c.send-sent.new.table c.send-sent.new.slots polling c.send-sent.new.pids c.send-sent.new.rates) k c.send-sent.result.manager c.send-sent.result.line 15 c.refuse.result refl refl (back_manager _ _ t Nothing _ q h) (back_line _ _ t Nothing _ q h) c.refuse.ensures)),
+              ),
+            ),
+          ),
+        ),
+      ),
+    ))
+
+pub returns : goal.returns
+unfolding manager_by manager_rows
+returns c =
+    named_marks_len_2_table_len_2_pids_len_2_rates_len_2_pids_unchanged_rates_unchanged_by_index (let a = c.args in
+    let k = a.core in
+    let e = c.send-sent.ensures in
+    let f : c.accept.result.notes.summary ≡ c.send-sent.result.summary = rw (c.accept.ensures, c.reporting-notes.ensures) in (
+      c.leave-after.ensures.marks_len,
+      (
+        e.table_len_2,
+        (
+          e.pids_len_2,
+          (
+            e.rates_len_2,
+            (
+              λ y. e.pids_unchanged (ap (λ (u : Summary). u.ran) (sym f) ∙ y),
+              (
+                λ y. e.rates_unchanged (ap (λ (u : Summary). u.ran) (sym f) ∙ y),
+                λ replies polling.
+                    let x = lent replies a.marks.now a.table.now a.slots.now polling a.pids.now a.rates.now in
+                    let s = box_of x k in
+                    own_settled s a.time (Leave a.number) 0 (sym first_none) refl
+                    (sent_done s a.time (manager_by s (Leave a.number)) _ e.result_after c.if-sent.false
+                    (rw (c.accept.ensures, c.reporting-notes.ensures, c.leave-after.ensures.by_index replies))),
+              ),
+            ),
+          ),
+        ),
+      ),
+    ))

@@ -1,0 +1,16 @@
+-- `history_numbers::wait` meets its contract.
+use mathlib.Core.Path.{sym, ◌∙◌}
+use Rattle.history_numbers.specs.Numbers.{wait_of}
+use Rattle.history_numbers.proofs.wait.Goals as goal
+
+pub returns-then-is_none : goal.returns-then-is_none
+unfolding wait_of
+returns-then-is_none c = rw (sym c.is_none.ensures ∙ c.if-is_none.true)
+
+pub returns-in-Value : goal.returns-in-Value
+unfolding wait_of
+returns-in-Value c = rw (sym c.is_none.ensures ∙ c.if-is_none.false, sym c.read.ensures ∙ c.in-Value.is)
+
+pub returns-in-Bad : goal.returns-in-Bad
+unfolding wait_of
+returns-in-Bad c = rw (sym c.is_none.ensures ∙ c.if-is_none.false, sym c.read.ensures ∙ c.in-Bad.is)

@@ -1,0 +1,11 @@
+-- `history_said::check` meets its contract.
+use Rattle.history_said.specs.Texts.{check_text}
+use Rattle.history_said.proofs.check.Goals as goal
+
+pub returns-then-yes : goal.returns-then-yes
+unfolding check_text
+returns-then-yes c = rw c.if-yes.true c.put.ensures
+
+pub returns : goal.returns
+unfolding check_text
+returns c = rw c.if-yes.false c.put-2.ensures

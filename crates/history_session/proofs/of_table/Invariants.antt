@@ -1,0 +1,11 @@
+use mathlib.Core.Path.{◌≡◌}
+use lib.ListN.{length, take}
+use Rattle.history_session.specs.Session.{has_length, table_of}
+use Prim.Native.Nat.{◌≤◌, ◌-◌}
+use Rattle.history_session.proofs.of_table.Given as goal
+
+abbrev pub invariant-loop-p : goal.invariant-loop-p
+invariant-loop-p l = (l.p ≤ 256) × (length l.known ≡ 256) × (take l.p l.known ≡ table_of has_length l.p)
+
+abbrev pub decreases-loop-p : goal.decreases-loop-p
+decreases-loop-p l = 256 - l.p

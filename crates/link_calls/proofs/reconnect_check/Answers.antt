@@ -1,0 +1,24 @@
+use Rattle.std.specs.Prelude.{[]}
+use mathlib.Core.Path.{refl, sym, ◌∙◌}
+use Rattle.obd2.specs.Answers.{answers, settled_here, settled_next, settled_none}
+use Rattle.obd2.specs.Core.{box_of, refused_is}
+use Rattle.obd2.specs.Done.{link_by, done_of}
+use Rattle.obd2.specs.History.{in_time}
+use Rattle.obd2.specs.Refusals.{link_rows, rows_of, row_refusal}
+use Rattle.report.specs.Summary.{none_in}
+use Rattle.link_calls.proofs.reconnect_check.Goals as goal
+
+pub returns-then-open : goal.returns-then-open
+unfolding in_time row_refusal rows_of link_rows
+returns-then-open c =
+    λ x.
+    let a = c.args in
+    answers (settled_here (box_of x a.core) _ 12 [] (sym c.open.ensures ∙ c.if-open.true) refl (refused_is x a.core _ 12 c.refuse.ensures))
+
+pub returns : goal.returns
+unfolding in_time row_refusal rows_of link_rows done_of link_by
+returns c =
+    λ x.
+    let a = c.args in
+    answers (settled_next (box_of x a.core) _ 12 [] (sym c.open.ensures ∙ c.if-open.false)
+    (settled_none (box_of x a.core) _ (rw (c.accept.ensures, c.no_notes-notes.ensures, none_in x.pids x.rates, ← c.reconnect-checked.ensures x.polling))))

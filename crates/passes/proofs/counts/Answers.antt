@@ -1,0 +1,11 @@
+use borrow.Author.Tests.{eq-eqb, ne_eqb}
+use Rattle.passes.specs.Wishes.{counts_of}
+use Rattle.passes.proofs.counts.Goals as goal
+
+pub returns-then-kind-eq2 : goal.returns-then-kind-eq2
+unfolding counts_of
+returns-then-kind-eq2 c = rw (eq-eqb _ _ c.if-kind-eq2.true)
+
+pub returns-else-kind-eq2 : goal.returns-else-kind-eq2
+unfolding counts_of
+returns-else-kind-eq2 c = rw (ne_eqb _ _ c.if-kind-eq2.false)

@@ -1,0 +1,4 @@
+pub mod Rounds
+pub mod Ratio
+pub mod Asked
+pub mod OnlySlow

@@ -1,0 +1,7 @@
+use Rattle.std.specs.Prelude.{[], get_or}
+use Rattle.poller.specs.Core.{lengths_row}
+use Rattle.poller.specs.Cases.{fail_done}
+use Rattle.poller.proofs.calls.fail.Goals as goal
+
+pub returns : goal.returns
+returns c = λ x. rw (fail_done, ← c.fail-tried.ensures (get_or x.known lengths_row []))

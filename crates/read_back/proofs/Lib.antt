@@ -1,0 +1,3 @@
+pub mod CutTheorem
+pub mod TripTheorem
+pub mod Witness

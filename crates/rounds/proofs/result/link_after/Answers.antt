@@ -1,0 +1,10 @@
+use Rattle.rounds.specs.Result.{link_after}
+use Rattle.rounds.proofs.result.link_after.Goals as goal
+
+pub returns-then-gone : goal.returns-then-gone
+unfolding link_after
+returns-then-gone c = λ lengths taught. rw c.if-gone.true (c.lose.ensures taught)
+
+pub returns : goal.returns
+unfolding link_after
+returns c = λ lengths taught. rw c.if-gone.false
