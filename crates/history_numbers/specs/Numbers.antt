@@ -1,6 +1,6 @@
 -- Numbers of fewer than 64 bits, choices and numbers that may be missing: history-format.md, "CLIENT, RATIO and
 -- THRESHOLD have 32 bits, MAXPIDS 8"; "`-` stands for none".
-use Rattle.std.specs.Prelude.{Bool, true, false, List, ℕ, eqb}
+use Rattle.std.specs.Prelude.{Bool, None, Some, List, ℕ, eqb}
 use Rattle.base.specs.Choice.{pick}
 use Rattle.base.specs.Letters.{letters}
 use Rattle.text.specs.Cut.{same_of}
@@ -45,12 +45,12 @@ unfoldable pub flag_of : List ℕ → FlagToken
 flag_of s = as_flag (number_of 1 s)
 
 abbrev pub as_threshold : Word32 → ThresholdToken
-as_threshold (word32.Value n) = threshold.Value true n
+as_threshold (word32.Value n) = threshold.Value (Some n)
 as_threshold word32.Bad = threshold.Bad
 
 -- "THRESHOLD a number or `-`"
 unfoldable pub threshold_of : List ℕ → ThresholdToken
-threshold_of s = pick (is_none s) (threshold.Value false 0) (as_threshold (word32_of s))
+threshold_of s = pick (is_none s) (threshold.Value None) (as_threshold (word32_of s))
 
 abbrev pub as_wait : Number → WaitToken
 as_wait (number.Value n) = wait.Value (Miss n)

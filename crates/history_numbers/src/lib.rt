@@ -22,10 +22,10 @@ pub enum FlagToken {
     Bad,
 }
 
-// A profile's THRESHOLD: whether there is one, and the threshold, 0 where there is none.
+// A profile's THRESHOLD.
 #[derive(Clone, Copy)]
 pub enum ThresholdToken {
-    Value { limited: bool, threshold: u32 },
+    Value(Option<u32>),
     Bad,
 }
 
@@ -73,16 +73,10 @@ pub fn threshold(s: &[u8]) -> ThresholdToken
     ensures { result ≡ threshold_of s.now }
 {
     if is_none(s) {
-        return ThresholdToken::Value {
-            limited: false,
-            threshold: 0,
-        };
+        return ThresholdToken::Value(None);
     }
     match number32(s) {
-        Word32::Value(n) => ThresholdToken::Value {
-            limited: true,
-            threshold: n,
-        },
+        Word32::Value(n) => ThresholdToken::Value(Some(n)),
         Word32::Bad => ThresholdToken::Bad,
     }
 }

@@ -1,5 +1,5 @@
 -- SETTINGS and PROFILE: fields parted by commas, in document 01's order. 44 is `,`. A bad field makes all bad.
-use Rattle.std.specs.Prelude.{Bool, List, ◌≡◌, refl, ℕ, eqb}
+use Rattle.std.specs.Prelude.{Option, Bool, List, ◌≡◌, refl, ℕ, eqb}
 use Rattle.std.proofs.Common.{sym, eq-eqb, ne_eqb}
 use Rattle.base.specs.Choice.{pick}
 use Rattle.base.specs.Times.{times}
@@ -85,11 +85,11 @@ unfoldable pub subject_of : List ℕ → SubjectFields
 subject_of s = as_subject (byte_of (head_of 44 s)) (pid_of (head_of 44 (second s))) (byte_of (head_of 44 (third s)))
 
 unfoldable pub as_profile : SubjectFields → ThresholdToken → FlagToken → ProfileToken
-as_profile (subject.Value k p r) (threshold.Value l n) (flag.Value e) =
-    profile.Value (record { kind = k; pid = p; priority = r; limited = l; threshold = n; enabled = e })
+as_profile (subject.Value k p r) (threshold.Value t) (flag.Value e) =
+    profile.Value (record { kind = k; pid = p; priority = r; threshold = t; enabled = e })
 as_profile subject.Bad t e = profile.Bad
 as_profile (subject.Value k p r) threshold.Bad e = profile.Bad
-as_profile (subject.Value k p r) (threshold.Value l n) flag.Bad = profile.Bad
+as_profile (subject.Value k p r) (threshold.Value t) flag.Bad = profile.Bad
 
 -- KIND,PID,PRIORITY,THRESHOLD,ENABLED
 unfoldable pub profile_of : List ℕ → ProfileToken
@@ -158,7 +158,7 @@ profile_2 subject.Bad e = refl
 
 profile_3 : (u : SubjectFields) (t : ThresholdToken) → as_profile u t flag.Bad ≡ profile.Bad
 unfolding as_profile
-profile_3 (subject.Value k p r) (threshold.Value l n) = refl
+profile_3 (subject.Value k p r) (threshold.Value t) = refl
 profile_3 (subject.Value k p r) threshold.Bad = refl
 profile_3 subject.Bad t = refl
 
@@ -257,7 +257,7 @@ module _ (s : List ℕ) where
     unfolding profile_of
     profile_bad_3 e = rw (eq-eqb (times 44 s) 4 h, e) (sym (profile_3 _ _))
 
-    pub profile_good : (k p r : ℕ) (l : Bool) (n : ℕ) (e : Bool) → subject_of s ≡ subject.Value k p r → threshold_of (head_of 44 (fourth s)) ≡ threshold.Value l n → flag_of (tail_of 44 (fourth s)) ≡ flag.Value e
-        → profile.Value (record { kind = k; pid = p; priority = r; limited = l; threshold = n; enabled = e }) ≡ profile_of s
+    pub profile_good : (k p r : ℕ) (t : Option ℕ) (e : Bool) → subject_of s ≡ subject.Value k p r → threshold_of (head_of 44 (fourth s)) ≡ threshold.Value t → flag_of (tail_of 44 (fourth s)) ≡ flag.Value e
+        → profile.Value (record { kind = k; pid = p; priority = r; threshold = t; enabled = e }) ≡ profile_of s
     unfolding profile_of as_profile
-    profile_good k p r l n e a b c = rw (eq-eqb (times 44 s) 4 h, a, b, c)
+    profile_good k p r t e a b c = rw (eq-eqb (times 44 s) 4 h, a, b, c)

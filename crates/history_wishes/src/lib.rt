@@ -185,9 +185,8 @@ pub fn profile(s: &[u8]) -> ProfileToken
         return ProfileToken::Bad;
     };
     let fourth = behind_three(s);
-    let ThresholdToken::Value { limited, threshold } = history_numbers::threshold(text::head(
-        fourth, b',',
-    )) else {
+    let ThresholdToken::Value(threshold) = history_numbers::threshold(text::head(fourth, b','))
+    else {
         return ProfileToken::Bad;
     };
     let FlagToken::Value(enabled) = history_numbers::flag(text::tail(fourth, b',')) else {
@@ -197,7 +196,6 @@ pub fn profile(s: &[u8]) -> ProfileToken
         kind,
         pid,
         priority,
-        limited,
         threshold,
         enabled,
     })

@@ -28,7 +28,7 @@ use Rattle.poller.specs.Calls.{applied_of, connect_of, begin_of}
 use Rattle.rounds.specs.Next.{issue_of, end_of, slow_due, slow_of, first_of as firstQuery, next_of}
 use Rattle.rounds.specs.Result.{keep_of, teach_of, teach_all, learn_of, link_after, round_after, result_of}
 use Rattle.poller.specs.State.{pids_of, start_of as startPoller}
-use Rattle.profile_check.specs.Check.{bad_profiles, unknown_mode, unknown_of, many}
+use Rattle.profile_check.specs.Check.{bad_profiles, unknown_mode, unknown_of}
 use Rattle.reply.specs.Rules.{within_of, sum_of, counted_of, lengths_of, total_of}
 use Rattle.obd2.specs.Answers.{values_of}
 use Rattle.obd2.specs.Call.{begin, next, round, RoundCall, Begin, Next, Result}
@@ -91,7 +91,7 @@ record Computed (ps : Profiles) (fast slow : List ℕ) (rs : List (List ℕ)) : 
   all_up : all_up_in (read 0 second ps (settled ps)) (happened (there 0 second ps (settled ps)) calls) ≡ true
 
 computed : Computed two (12 ∷ []) (5 ∷ []) ((12 ∷ []) ∷ (12 ∷ 5 ∷ []) ∷ []) × Computed overlays [] (5 ∷ 15 ∷ []) ((5 ∷ []) ∷ (15 ∷ []) ∷ [])
-unfolding rounds_in open_over seen_over start_of start_refusal started startManager register_of no_table through news entry_after swept tidings counts_of priority_of wished_by wish_of joinedWish in_force is_fast speed registered_of told_of empty_of send_all messages pushOut push_all_of push_of empty_line unknown_mode unknown_of many bad_profiles run step refusal_of rows_of link_rows round_rows done_of link_by round_by over_range within_of sum_of counted_of lengths_of total_of first_of some_of take_of applied_of set_of remove_of fit_of swap_out append_of place entries size_of wrap empty_list connect_of linkUp start_link no_ranges startPoller happened nextPid begin_of next_of firstQuery slow_of slow_due issue_of end_of more_of padded keep_of teach_of teach_all learn_of link_after round_after result_of pids_of waiting from
+unfolding rounds_in open_over seen_over start_of start_refusal started startManager register_of no_table through news entry_after swept tidings counts_of priority_of wished_by wish_of joinedWish in_force is_fast speed registered_of told_of empty_of send_all messages pushOut push_all_of push_of empty_line unknown_mode unknown_of bad_profiles run step refusal_of rows_of link_rows round_rows done_of link_by round_by over_range within_of sum_of counted_of lengths_of total_of first_of some_of take_of applied_of set_of remove_of fit_of swap_out append_of place entries size_of wrap empty_list connect_of linkUp start_link no_ranges startPoller happened nextPid begin_of next_of firstQuery slow_of slow_due issue_of end_of more_of padded keep_of teach_of teach_all learn_of link_after round_after result_of pids_of waiting from
 computed = (
   record { opened = refl; over = refl; rounds_are = refl; fast_is = refl; slow_is = refl; settings_are = refl; up = refl; all_up = refl },
   record { opened = refl; over = refl; rounds_are = refl; fast_is = refl; slow_is = refl; settings_are = refl; up = refl; all_up = refl },
@@ -146,5 +146,5 @@ abbrev queried : Answered
 queried = step (run (there 0 second two (settled two)) (begin 4 ∷ [])) (next 5)
 
 pub query_told : values_of queried.answer queried.details ≡ 12 ∷ 0 ∷ []
-unfolding start_of start_refusal started startManager register_of no_table through news entry_after swept tidings counts_of priority_of wished_by wish_of joinedWish in_force is_fast speed registered_of told_of empty_of send_all messages pushOut push_all_of push_of empty_line unknown_mode unknown_of many bad_profiles run step refusal_of rows_of link_rows round_rows done_of link_by round_by over_range within_of sum_of counted_of lengths_of total_of first_of some_of take_of applied_of set_of remove_of fit_of swap_out append_of place entries size_of wrap empty_list connect_of linkUp start_link no_ranges startPoller happened nextPid begin_of next_of firstQuery slow_of slow_due issue_of end_of more_of padded keep_of teach_of teach_all learn_of link_after round_after result_of pids_of waiting from
+unfolding start_of start_refusal started startManager register_of no_table through news entry_after swept tidings counts_of priority_of wished_by wish_of joinedWish in_force is_fast speed registered_of told_of empty_of send_all messages pushOut push_all_of push_of empty_line unknown_mode unknown_of bad_profiles run step refusal_of rows_of link_rows round_rows done_of link_by round_by over_range within_of sum_of counted_of lengths_of total_of first_of some_of take_of applied_of set_of remove_of fit_of swap_out append_of place entries size_of wrap empty_list connect_of linkUp start_link no_ranges startPoller happened nextPid begin_of next_of firstQuery slow_of slow_due issue_of end_of more_of padded keep_of teach_of teach_all learn_of link_after round_after result_of pids_of waiting from
 query_told = refl

@@ -32,4 +32,4 @@ returns-in_default-flag c =
 
 pub returns : goal.returns
 returns c =
-    profile_good _ (sym c.count.ensures ∙ c.if-count-ne4.false) _ _ _ _ _ _ (sym (subject-is (goal.at.returns c).After-subject) ∙ c.in-Value.is) (sym (threshold-is (goal.at.returns c).After-threshold) ∙ c.in-Value-threshold.is) (sym (flag_is (goal.at.returns c).After-flag) ∙ c.in-Value-flag.is)
+    profile_good _ (sym c.count.ensures ∙ c.if-count-ne4.false) _ _ _ _ _ (sym (subject-is (goal.at.returns c).After-subject) ∙ c.in-Value.is) (sym (threshold-is (goal.at.returns c).After-threshold) ∙ c.in-Value-threshold.is) (sym (flag_is (goal.at.returns c).After-flag) ∙ c.in-Value-flag.is)
