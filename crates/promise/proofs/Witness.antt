@@ -1,7 +1,7 @@
 -- Histories that meet every hypothesis of the demand, all the way from a start: a connection made and a round begun with nothing
 -- listed yet, its end, the messages of two PIDs taken, and from there two rounds. One with a Fast and a Slow PID, where the second
 -- round passes the slow test; one with two Slow PIDs alone, where both rounds pass it. All of it is computed.
-use Rattle.std.specs.Prelude.{Bool, true, false, List, [], ◌∷◌, ◌++◌, map, ◌≡◌, refl, ℕ, ◌+◌, ◌*◌, ◌<◌, ◌≤◌, max, eqb, length}
+use Rattle.std.specs.Prelude.{Some, Bool, true, false, List, [], ◌∷◌, ◌++◌, map, ◌≡◌, refl, ℕ, ◌+◌, ◌*◌, ◌<◌, ◌≤◌, max, eqb, length}
 use Rattle.std.proofs.Common.{ap, ◌∙◌, arith}
 use Rattle.base.specs.Both.{both_left, both_right}
 use Rattle.base.specs.Choice.{pick, cases}
@@ -16,7 +16,6 @@ use Rattle.control.specs.Outbox.{empty_of, send_all, messages, push_of as pushOu
 use Rattle.control.specs.Told.{told_of}
 use Rattle.control.specs.declared.DongleMessage.{DongleMessage}
 use Rattle.control_line.specs.Ring.{empty_line, push_of, push_all_of, take_of, from, waiting}
-use Rattle.control_line.specs.declared.Taken.TheVariants.{Message}
 use Rattle.link.specs.Rules.{no_ranges, start_link, connect_of as linkUp}
 use Rattle.manager.specs.Calls.{no_table, register_of, start_of as startManager}
 use Rattle.passes.specs.Sweep.{through, news, entry_after, swept, tidings}
@@ -55,13 +54,13 @@ kept k true t Next = refl
 kept k true t (Result o) = refl
 kept k false t c = refl
 
-other : (s : State) (t : ℕ) (c : RoundCall) (m : DongleMessage) → (done_of s (round t c)).said ≡ Taken (Message m) → ⊥
+other : (s : State) (t : ℕ) (c : RoundCall) (m : DongleMessage) → (done_of s (round t c)).said ≡ Taken (Some m) → ⊥
 unfolding done_of round_by
 other s t Begin m e = let z : ◌≡◌ {A = ℕ} 0 1 = cc in omega arith
 other s t Next m e = let z : ◌≡◌ {A = ℕ} 0 1 = cc in omega arith
 other s t (Result o) m e = let z : ◌≡◌ {A = ℕ} 0 1 = cc in omega arith
 
-none_taken : (s : State) (t : ℕ) (c : RoundCall) (m : DongleMessage) → (step s (round t c)).answer ≡ Accepted (Taken (Message m)) → ⊥
+none_taken : (s : State) (t : ℕ) (c : RoundCall) (m : DongleMessage) → (step s (round t c)).answer ≡ Accepted (Taken (Some m)) → ⊥
 unfolding step
 none_taken s t c m f = cases _ (eqb (refusal_of s (round t c)) 0)
     (λ e. other s t c m (let g = rw e at f in cc))
