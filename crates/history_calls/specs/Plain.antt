@@ -1,6 +1,6 @@
 -- The calls that bring no list: what stands behind their time, token by token, as the page's table has it. A bad
 -- token, one too many and one too few make the line bad.
-use Rattle.std.specs.Prelude.{Bool, true, false, List, ◌≡◌, refl, ℕ}
+use Rattle.std.specs.Prelude.{Option, Bool, true, false, List, ◌≡◌, refl, ℕ}
 use Rattle.std.proofs.Common.{sym}
 use Rattle.base.specs.Choice.{pick}
 use Rattle.numeral.specs.Decimal.{number_of}
@@ -13,7 +13,6 @@ use Rattle.hex_text.specs.declared.Bytes.{Bytes}
 use Rattle.hex_text.specs.declared.Bytes.TheVariants as bytes
 use Rattle.obd2.specs.declared.call.Call.{Call}
 use Rattle.obd2.specs.declared.call.Call.TheVariants as call
-use Rattle.pid_table.specs.declared.WaitDuration.{WaitDuration}
 use Rattle.config.specs.declared.Settings.{Settings}
 use Rattle.history_numbers.specs.Numbers.{word32_of, wait_of}
 use Rattle.history_wishes.specs.Wishes.{settings_of}
@@ -205,7 +204,7 @@ module _ (t : ℕ) (ts : Tokens) where
   unfolding consumed_of
   consumed_bad_2 e = rw e (sym (consumed_2 _ _ _))
 
-  pub consumed_good : (p : ℕ) (w : WaitDuration) → pid_of (first_of ts) ≡ byte.Value p → wait_of (first_of (rest_of ts)) ≡ wait.Value w
+  pub consumed_good : (p : ℕ) (w : Option ℕ) → pid_of (first_of ts) ≡ byte.Value p → wait_of (first_of (rest_of ts)) ≡ wait.Value w
       → alone_of t (call.Consumed p w) (rest_of (rest_of ts)) ≡ consumed_of t ts
   unfolding consumed_of of_consumed
   consumed_good p w a b = rw (a, b)

@@ -9,7 +9,6 @@ use Rattle.numeral.specs.declared.Number.{Number}
 use Rattle.numeral.specs.declared.Number.TheVariants as number
 use Rattle.hex_text.specs.declared.Byte.{Byte}
 use Rattle.hex_text.specs.declared.Byte.TheVariants as byte
-use Rattle.pid_table.specs.declared.WaitDuration.TheVariants.{Hit, Miss}
 use Rattle.history_numbers.specs.declared.Word32.{Word32}
 use Rattle.history_numbers.specs.declared.Word32.TheVariants as word32
 use Rattle.history_numbers.specs.declared.FlagToken.{FlagToken}
@@ -53,12 +52,12 @@ unfoldable pub threshold_of : List ℕ → ThresholdToken
 threshold_of s = pick (is_none s) (threshold.Value None) (as_threshold (word32_of s))
 
 abbrev pub as_wait : Number → WaitToken
-as_wait (number.Value n) = wait.Value (Miss n)
+as_wait (number.Value n) = wait.Value (Some n)
 as_wait number.Bad = wait.Bad
 
 -- "WAIT a number or `-`"
 unfoldable pub wait_of : List ℕ → WaitToken
-wait_of s = pick (is_none s) (wait.Value Hit) (as_wait (number_of 18446744073709551615 s))
+wait_of s = pick (is_none s) (wait.Value None) (as_wait (number_of 18446744073709551615 s))
 
 abbrev pub as_ecu : Byte → Byte
 as_ecu (byte.Value n) = pick (eqb n 0) byte.Bad (byte.Value n)

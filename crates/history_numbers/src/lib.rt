@@ -85,10 +85,10 @@ pub fn wait(s: &[u8]) -> WaitToken
     ensures { result ≡ wait_of s.now }
 {
     if is_none(s) {
-        return WaitToken::Value(WaitDuration::Hit);
+        return WaitToken::Value(None);
     }
     match numeral::read(s, u64::MAX) {
-        Number::Value(n) => WaitToken::Value(WaitDuration::Miss(n)),
+        Number::Value(n) => WaitToken::Value(Some(n)),
         Number::Bad => WaitToken::Bad,
     }
 }

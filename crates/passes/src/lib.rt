@@ -36,6 +36,7 @@ pub enum Pass {
 }
 
 // Whether a profile of this kind is in force: a triggered one only when it is enabled.
+#[tactic(auto, unfolding(crate::specs::Wishes::counts_of))]
 fn counts(kind: u8, enabled: bool) -> bool
     ensures { result ≡ counts_of kind enabled }
 {
