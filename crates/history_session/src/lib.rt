@@ -4,10 +4,8 @@
 ghost use Rattle.std.specs.Prelude.{◌≡◌, ◌<◌};
 ghost use Rattle.history_session.specs.Session.{state_of, kind_of, learnt_of, none_known, has_length, table_of, bit_of, bit_in, no_known, known_of};
 
-use hex_text::{Byte, Bytes};
 use history_numbers::FlagToken;
 use link::FeatureSupport;
-use numeral::Number;
 use pid::DataLength;
 use rounds::{Kind, Learnt};
 
@@ -112,15 +110,14 @@ pub fn known(s: &[u8]) -> KnownToken
     }
     let mut bits = [0u8; 32];
     match hex_text::read(s, &mut bits) {
-        Bytes::Count(n) => {
+        Ok(n) => {
             if n != 32 {
                 return bad_known();
             }
             let known = of_bits(bits);
             KnownToken { known, good: true }
         }
-        Bytes::Bad => bad_known(),
-        Bytes::Short => bad_known(),
+        Err(_) => bad_known(),
     }
 }
 
@@ -128,7 +125,7 @@ pub fn state(s: &[u8]) -> StateToken
     ensures { result ≡ state_of s.now }
 {
     match numeral::read(s, 2) {
-        Number::Value(n) => {
+        Some(n) => {
             if n == 0 {
                 return StateToken::Value(FeatureSupport::Unknown);
             }
@@ -137,7 +134,7 @@ pub fn state(s: &[u8]) -> StateToken
             }
             StateToken::Value(FeatureSupport::No)
         }
-        Number::Bad => StateToken::Bad,
+        None => StateToken::Bad,
     }
 }
 
@@ -146,7 +143,7 @@ pub fn kind(s: &[u8]) -> KindToken
     ensures { result ≡ kind_of s.now }
 {
     match numeral::read(s, 2) {
-        Number::Value(n) => {
+        Some(n) => {
             if n == 0 {
                 return KindToken::Value(Kind::Replied);
             }
@@ -155,7 +152,7 @@ pub fn kind(s: &[u8]) -> KindToken
             }
             KindToken::Value(Kind::Lost)
         }
-        Number::Bad => KindToken::Bad,
+        None => KindToken::Bad,
     }
 }
 
@@ -165,7 +162,7 @@ pub fn learnt(s: &[u8]) -> LearntToken
     if text::count(s, b',') != 1 {
         return LearntToken::Bad;
     }
-    let Byte::Value(ecu) = history_numbers::ecu(text::head(s, b',')) else {
+    let Some(ecu) = history_numbers::ecu(text::head(s, b',')) else {
         return LearntToken::Bad;
     };
     let FlagToken::Value(known) = history_numbers::flag(text::tail(s, b',')) else {
