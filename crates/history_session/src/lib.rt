@@ -8,7 +8,6 @@ use hex_text::{Byte, Bytes};
 use history_numbers::FlagToken;
 use link::FeatureSupport;
 use numeral::Number;
-use pid::DataLength;
 use rounds::{Kind, Learnt};
 
 // The PIDs whose lengths are known, none where the token is bad.
@@ -44,13 +43,11 @@ fn none_known() -> [bool; 256]
 }
 
 // Whether the PID is one of pid.rs's table.
+#[tactic(auto, unfolding(crate::specs::Session::has_length))]
 fn has_length(p: u8) -> bool
     ensures { result ≡ has_length p }
 {
-    match pid::data_length(p) {
-        DataLength::Known(_) => true,
-        DataLength::Unknown => false,
-    }
+    pid::data_length(p).is_some()
 }
 
 // The PIDs of pid.rs's table.
