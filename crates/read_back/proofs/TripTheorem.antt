@@ -1,5 +1,5 @@
 -- The proof of the claim of `Trip`.
-use Rattle.std.specs.Prelude.{true, false, List, [], ◌∷◌, ◌++◌, map, ◌≡◌, ℕ, suc, ◌+◌, ◌-◌, ◌%◌, ◌^◌, ◌≤◌, ltb, take, drop}
+use Rattle.std.specs.Prelude.{true, false, List, [], ◌∷◌, ◌++◌, Ok, Err, map, ◌≡◌, ℕ, suc, ◌+◌, ◌-◌, ◌%◌, ◌^◌, ◌≤◌, ltb, take, drop}
 use Rattle.std.proofs.Common.{append_assoc, append-nil, sym, ◌∙◌, drop_at}
 use Rattle.std.proofs.Math.Path.{refl, ap}
 use native.Mathlib.Omega.{arith}
@@ -11,7 +11,8 @@ use Rattle.base.specs.Choice.{cases}
 use Rattle.base.specs.Write.{over, over_length, take_over}
 use Rattle.text.specs.Cut.{same_of}
 use Rattle.capture.specs.declared.Recorder.{Recorder}
-use Rattle.capture.specs.declared.Recorded.TheVariants.{Written, Overflow, Refused}
+use Rattle.capture.specs.declared.Recorded.TheVariants.{Written, Overflow}
+use Rattle.capture.specs.declared.RecordError.TheVariants.{UnknownKind, TooLong}
 use Rattle.capture.specs.declared.Appended.{Appended}
 use Rattle.capture.specs.Format.{le, record_bytes, fits_in, marked, grown, appended, recorded_of, buffer_of, magic, firmware_text, count_bytes, header_of, empty_recorder, Room}
 use Rattle.capture.specs.Laws.{le_length, fits_room}
@@ -113,7 +114,7 @@ record Left (r : Recorder) (buf : List ℕ) (c : RecordCall) : Type 0 where
 
 module _ (r : Recorder) (buf : List ℕ) (c : RecordCall) where
   module _ (a : ltb 3 c.kind ≡ true) where
-    unknown_result : recorded_of r buf c.kind c.bytes ≡ appended r (Refused 2)
+    unknown_result : recorded_of r buf c.kind c.bytes ≡ appended r (Err UnknownKind)
     unfolding recorded_of
     unknown_result = rw a
 
@@ -123,7 +124,7 @@ module _ (r : Recorder) (buf : List ℕ) (c : RecordCall) where
 
   module _ (a : ltb 3 c.kind ≡ false) where
     module _ (b : ltb 65535 (length c.bytes) ≡ true) where
-      long_result : recorded_of r buf c.kind c.bytes ≡ appended r (Refused 5)
+      long_result : recorded_of r buf c.kind c.bytes ≡ appended r (Err TooLong)
       unfolding recorded_of
       long_result = rw (a, b)
 
@@ -133,7 +134,7 @@ module _ (r : Recorder) (buf : List ℕ) (c : RecordCall) where
 
     module _ (b : ltb 65535 (length c.bytes) ≡ false) where
       module _ (f : fits_in r (length buf) (length c.bytes) ≡ true) where
-        fit_result : recorded_of r buf c.kind c.bytes ≡ appended (grown r (length c.bytes)) Written
+        fit_result : recorded_of r buf c.kind c.bytes ≡ appended (grown r (length c.bytes)) (Ok Written)
         unfolding recorded_of
         fit_result = rw (a, b, f)
 
@@ -142,7 +143,7 @@ module _ (r : Recorder) (buf : List ℕ) (c : RecordCall) where
         fit_buffer = rw (a, b, f)
 
       module _ (f : fits_in r (length buf) (length c.bytes) ≡ false) where
-        full_result : recorded_of r buf c.kind c.bytes ≡ appended (marked r) Overflow
+        full_result : recorded_of r buf c.kind c.bytes ≡ appended (marked r) (Ok Overflow)
         unfolding recorded_of
         full_result = rw (a, b, f)
 
@@ -156,9 +157,9 @@ module _ (r : Recorder) (buf : List ℕ) (c : RecordCall) where
   put : is_written (answer_of r buf c) ≡ true → Put r buf c
   unfolding is_written
   put e = cases _ (ltb 3 c.kind)
-      (λ a. never _ e (answer_by (appended r (Refused 2)) (unknown_result a)))
+      (λ a. never _ e (answer_by (appended r (Err UnknownKind)) (unknown_result a)))
       (λ a. cases _ (ltb 65535 (length c.bytes))
-      (λ b. never _ e (answer_by (appended r (Refused 5)) (long_result a b)))
+      (λ b. never _ e (answer_by (appended r (Err TooLong)) (long_result a b)))
       (λ b. cases _ (fits_in r (length buf) (length c.bytes))
       (λ f.
       record {
@@ -168,7 +169,7 @@ module _ (r : Recorder) (buf : List ℕ) (c : RecordCall) where
         recorder_is = ap (λ (x : Appended). x.recorder) (fit_result a b f);
         buffer_is = fit_buffer a b f;
       })
-      (λ f. never _ e (answer_by (appended (marked r) Overflow) (full_result a b f)))))
+      (λ f. never _ e (answer_by (appended (marked r) (Ok Overflow)) (full_result a b f)))))
 
   left_by : (x : Appended) → recorded_of r buf c.kind c.bytes ≡ x → x.recorder.fill ≡ r.fill → x.recorder.records ≡ r.records
       → buffer_then r buf c ≡ buf → Left r buf c
@@ -182,12 +183,12 @@ module _ (r : Recorder) (buf : List ℕ) (c : RecordCall) where
   left : is_written (answer_of r buf c) ≡ false → Left r buf c
   unfolding is_written
   left e = cases _ (ltb 3 c.kind)
-      (λ a. left_by (appended r (Refused 2)) (unknown_result a) refl refl (unknown_buffer a))
+      (λ a. left_by (appended r (Err UnknownKind)) (unknown_result a) refl refl (unknown_buffer a))
       (λ a. cases _ (ltb 65535 (length c.bytes))
-      (λ b. left_by (appended r (Refused 5)) (long_result a b) refl refl (long_buffer a b))
+      (λ b. left_by (appended r (Err TooLong)) (long_result a b) refl refl (long_buffer a b))
       (λ b. cases _ (fits_in r (length buf) (length c.bytes))
-      (λ f. never _ (answer_by (appended (grown r (length c.bytes)) Written) (fit_result a b f)) e)
-      (λ f. left_by (appended (marked r) Overflow) (full_result a b f) refl refl (full_buffer a b f))))
+      (λ f. never _ (answer_by (appended (grown r (length c.bytes)) (Ok Written)) (fit_result a b f)) e)
+      (λ f. left_by (appended (marked r) (Ok Overflow)) (full_result a b f) refl refl (full_buffer a b f))))
 
   written_here : (cs : List RecordCall) → is_written (answer_of r buf c) ≡ true
       → written_in r buf (c ∷ cs) ≡ c ∷ written_in (recorder_then r buf c) (buffer_then r buf c) cs
