@@ -1,5 +1,5 @@
 -- The proof of the claim of `Trip`.
-use Rattle.std.specs.Prelude.{true, false, List, [], ◌∷◌, ◌++◌, Ok, Err, map, ◌≡◌, ℕ, suc, ◌+◌, ◌-◌, ◌%◌, ◌^◌, ◌≤◌, ltb, take, drop}
+use Rattle.std.specs.Prelude.{true, false, List, [], ◌∷◌, ◌++◌, None, Ok, Err, map, ◌≡◌, ℕ, suc, ◌+◌, ◌-◌, ◌%◌, ◌^◌, ◌≤◌, ltb, take, drop}
 use Rattle.std.proofs.Common.{append_assoc, append-nil, sym, ◌∙◌, drop_at}
 use Rattle.std.proofs.Math.Path.{refl, ap}
 use native.Mathlib.Omega.{arith}
@@ -16,10 +16,9 @@ use Rattle.capture.specs.declared.RecordError.TheVariants.{UnknownKind, TooLong}
 use Rattle.capture.specs.declared.Appended.{Appended}
 use Rattle.capture.specs.Format.{le, record_bytes, fits_in, marked, grown, appended, recorded_of, buffer_of, magic, firmware_text, count_bytes, header_of, empty_recorder, Room}
 use Rattle.capture.specs.Laws.{le_length, fits_room}
-use Rattle.capture_read.specs.declared.Stop.TheVariants.{Nowhere}
+use Rattle.capture_read.specs.declared.Record.{Record}
 use Rattle.capture_read.specs.Reading.{unle, field, header_size, seven_bytes, good_header, record_count, data_length, time_in, type_in, length_in, data_in, size_in, whole, stops, records_from, rest_of, records_of, left_over, row_in, row_of, rows_of, end_of, stop_at, found_of, listed_of, Told}
 use Rattle.capture_read.specs.Cases.{read_listed}
-use Rattle.capture_read.specs.declared.Outcome.TheVariants.{Listed}
 use Rattle.capture_read.specs.Laws.{has_whole, records_step, records_stop, rest_step, rest_stop}
 use Rattle.capture_read.specs.Append.{type_append, size_append}
 use Rattle.streams.specs.Stream.{joined}
@@ -306,7 +305,7 @@ back_more c cs known short b =
     record {
       records = λ p. text_first c short known behind p ∙ ap (λ (rs : List (ℕ × List ℕ)). (p, text_of c) ∷ rs) (b.records (p + n));
       rest = text_rest c short known behind ∙ b.rest;
-      rows = λ p. rw (text_row c short p, text_length c) (ap (λ (rs : List (List ℕ)). row_for p c ∷ rs) (b.rows (p + (seven_bytes + length c.bytes))));
+      rows = λ p. rw (text_row c short p, text_length c) (ap (λ (rs : List Record). row_for p c ∷ rs) (b.rows (p + (seven_bytes + length c.bytes))));
       contents = λ p. rw (text_data c short) (ap (λ (ds : List (List ℕ)). c.bytes ∷ ds) (b.contents (p + n)));
       number = λ p. ap suc (b.number (p + (seven_bytes + length c.bytes)));
     }
@@ -413,7 +412,7 @@ module _ (r : Recorder) (address : List ℕ) (port : ℕ) (text : List ℕ) (fou
     capture_said = header_fill r address port text (take r.fill buf) f.small
 
     capture_listed : listed_of capture
-        ≡ record { count = r.records; length = r.fill; found = record { records = r.records; bytes = r.fill; stop = Nowhere; left = 0 } }
+        ≡ record { count = r.records; length = r.fill; found = record { records = r.records; bytes = r.fill; stop = None; left = 0 } }
     unfolding listed_of found_of stop_at
     capture_listed = rw (capture_count, capture_said, capture_number, capture_bytes, capture_stops, capture_left, counted)
 
@@ -421,7 +420,7 @@ module _ (r : Recorder) (address : List ℕ) (port : ℕ) (text : List ℕ) (fou
     unfolding capture
     capture_good = header_good (take r.fill buf)
 
-    capture_answered : (list : List (List ℕ)) → length ws ≤ length list → Told list capture (Listed (listed_of capture)) (rows_at header_size ws ++ drop (length ws) list)
+    capture_answered : (list : List Record) → length ws ≤ length list → Told list capture (Ok (listed_of capture)) (rows_at header_size ws ++ drop (length ws) list)
     capture_answered list h = rw (capture_rows, b.number header_size) at (read_listed list capture capture_good (rw capture_number h))
 
     read_back : ReadBack r ws (capture_with r buf address port text)
