@@ -27,6 +27,7 @@ pub struct Terms {
     pub now: u64,
 }
 
+// A value and no closure, since the laws go over lists of passes.
 #[derive(Clone, Copy)]
 pub enum Pass {
     Register,

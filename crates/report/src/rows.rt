@@ -17,10 +17,7 @@ fn rates_of(table: &[[u64; 8]; 256], elapsed: u64) -> Rates
         let info = pid_table::rows::unpack(table[i]);
         if crate::listed(info) {
             let rate = rate::rate(info.count, elapsed);
-            let rated = Rated {
-                pid: i as u8,
-                rate,
-            };
+            let rated = Rated { pid: i as u8, rate };
             found = crate::insert(found, rated);
         }
     }
