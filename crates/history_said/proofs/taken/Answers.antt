@@ -4,8 +4,8 @@ use Rattle.history_said.proofs.taken.Goals as goal
 
 pub returns-in-Message : goal.returns-in-Message
 unfolding taken_text
-returns-in-Message c = rw c.in-Message.is c.control.ensures
+returns-in-Message g c = rw c.in-Message.is c.control.ensures
 
 pub returns-in-Nothing : goal.returns-in-Nothing
 unfolding taken_text
-returns-in-Nothing c = rw c.in-Nothing.is c.put.ensures
+returns-in-Nothing g c = rw c.in-Nothing.is c.put.ensures
