@@ -4,8 +4,8 @@ use Rattle.history_said.proofs.said.Goals as goal
 
 pub returns-in-Refused : goal.returns-in-Refused
 unfolding said_text
-returns-in-Refused c = λ x. rw c.in-Refused.is c.numbered.ensures
+returns-in-Refused g c = λ x. rw c.in-Refused.is c.numbered.ensures
 
 pub returns-in-Accepted : goal.returns-in-Accepted
 unfolding said_text
-returns-in-Accepted c = λ x. rw c.in-Accepted.is (c.accepted.ensures x)
+returns-in-Accepted g c = λ x. rw c.in-Accepted.is (c.accepted.ensures x)
