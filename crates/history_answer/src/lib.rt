@@ -3,6 +3,7 @@
 #![tactic(auto)]
 
 ghost use Rattle.std.specs.Prelude.{◌≡◌, [], length};
+ghost use Rattle.obd2.specs.Answer.{answer_of};
 ghost use Rattle.obd2.specs.Core.{lent, details_of};
 ghost use Rattle.poller.specs.Core.{held};
 ghost use Rattle.writing.specs.Fill.{fill_of, fill_end};
@@ -27,8 +28,8 @@ pub fn answer(
 ) -> usize
     requires pids_len { length pids.now ≡ 256 }
     requires rates_len { length rates.now ≡ 256 }
-    ensures value { result ≡ fill_end out.old at (answer_text answer (details_of (lent [] [] [] [] (held [] [] [] []) pids.now rates.now) notes) delivered area.now) }
-    ensures out_after { out.new ≡ fill_of out.old at (answer_text answer (details_of (lent [] [] [] [] (held [] [] [] []) pids.now rates.now) notes) delivered area.now) }
+    ensures value { result ≡ fill_end out.old at (answer_text (answer_of answer) (details_of (lent [] [] [] [] (held [] [] [] []) pids.now rates.now) notes) delivered area.now) }
+    ensures out_after { out.new ≡ fill_of out.old at (answer_text (answer_of answer) (details_of (lent [] [] [] [] (held [] [] [] []) pids.now rates.now) notes) delivered area.now) }
 {
     let first = history_said::said(out, at, answer, notes, delivered, area);
     let summary = notes.summary;

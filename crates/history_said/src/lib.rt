@@ -4,6 +4,7 @@
 ghost use Rattle.std.specs.Prelude.{◌≡◌, min, ◌++◌};
 ghost use Rattle.control.specs.declared.DongleMessage.TheVariants.{SetPidPriority};
 ghost use Rattle.numeral.specs.Decimal.{decimal_text};
+ghost use Rattle.obd2.specs.Answer.{answer_of};
 ghost use Rattle.obd2.specs.Core.{Lent, details_of};
 ghost use Rattle.writing.specs.Fill.{Wrote};
 ghost use Rattle.writing_pairs.specs.Pairs.{pid_text};
@@ -313,10 +314,12 @@ pub fn said(
     delivered: Response,
     area: &[u8],
 ) -> usize
-    ensures { (x : Lent) → Wrote out.old at (said_text answer (details_of x notes) delivered area.now) out.new result }
+    ensures { (x : Lent) → Wrote out.old at (said_text (answer_of answer) (details_of x notes) delivered area.now) out.new result }
 {
     match answer {
-        Answer::Refused(n) => numbered(out, at, b"refused ", n as u64),
-        Answer::Accepted(what) => accepted(out, at, what, notes, delivered, area),
+        Err(refusal) => {
+            numbered(out, at, b"refused ", u64::from(refusal.number()))
+        }
+        Ok(what) => accepted(out, at, what, notes, delivered, area),
     }
 }
