@@ -4,6 +4,7 @@
 ghost use Rattle.std.specs.Prelude.{◌≡◌, min, ◌++◌};
 ghost use Rattle.control.specs.declared.DongleMessage.TheVariants.{SetPidPriority};
 ghost use Rattle.numeral.specs.Decimal.{decimal_text};
+ghost use Rattle.obd2.specs.Answer.{answer_of};
 ghost use Rattle.obd2.specs.Core.{Lent, details_of};
 ghost use Rattle.writing.specs.Added.{Added};
 ghost use Rattle.writing_pairs.specs.Pairs.{pid_text};
@@ -305,10 +306,10 @@ pub fn said<const N: usize>(
     delivered: Response,
     area: &[u8],
 )
-    ensures { (x : Lent) → Added N out.old (said_text answer (details_of x notes) delivered area.now) out.new }
+    ensures { (x : Lent) → Added N out.old (said_text (answer_of answer) (details_of x notes) delivered area.now) out.new }
 {
     match answer {
-        Answer::Refused(n) => numbered(out, b"refused ", n as u64),
-        Answer::Accepted(what) => accepted(out, what, notes, delivered, area),
+        Err(refusal) => numbered(out, b"refused ", u64::from(refusal.number())),
+        Ok(what) => accepted(out, what, notes, delivered, area),
     }
 }
