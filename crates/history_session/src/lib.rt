@@ -6,7 +6,6 @@ ghost use Rattle.history_session.specs.Session.{state_of, kind_of, learnt_of, no
 
 use history_numbers::FlagToken;
 use link::FeatureSupport;
-use pid::DataLength;
 use rounds::{Kind, Learnt};
 
 // The PIDs whose lengths are known, none where the token is bad.
@@ -42,13 +41,11 @@ fn none_known() -> [bool; 256]
 }
 
 // Whether the PID is one of pid.rs's table.
+#[tactic(auto, unfolding(crate::specs::Session::has_length))]
 fn has_length(p: u8) -> bool
     ensures { result ≡ has_length p }
 {
-    match pid::data_length(p) {
-        DataLength::Known(_) => true,
-        DataLength::Unknown => false,
-    }
+    pid::data_length(p).is_some()
 }
 
 // The PIDs of pid.rs's table.
