@@ -13,7 +13,6 @@ ghost use Rattle.history_show.specs.Short.{with_shown};
 use config::PidPriority;
 use control::DongleMessage;
 use control_line::places::{Ends, PLACES};
-use desk::Revs;
 use obd2::rest::Core;
 use pid_list::PidList;
 use pid_table::PidInfo;
@@ -141,14 +140,14 @@ fn line(out: &mut [u8], at: usize, slots: &[[u8; 2]; PLACES], ends: Ends) -> usi
 }
 
 // The stored revs, `-` where none are known.
-fn revs(out: &mut [u8], at: usize, revs: Revs) -> usize
+fn revs(out: &mut [u8], at: usize, revs: Option<u32>) -> usize
     ensures { Wrote out.old at (revs_text revs) out.new result }
 {
     let next = writing::byte(out, at, b' ');
-    if revs.known {
-        return writing::number(out, next, revs.value as u64);
+    match revs {
+        Some(value) => writing::number(out, next, value as u64),
+        None => writing::byte(out, next, b'-'),
     }
-    writing::byte(out, next, b'-')
 }
 
 // The line from the place `at` on; the place behind it. The table, the control line's places and the poller's lists are

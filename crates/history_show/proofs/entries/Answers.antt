@@ -2,7 +2,6 @@
 use Rattle.writing.specs.Fill.{left_all, left_next, left_last, wrote_then}
 use Rattle.history_show.specs.Texts.{table_text}
 use Rattle.history_show.specs.Laws.{rows_next, rows_end}
-use Rattle.std.specs.Prelude.{◌-◌}
 use native.Mathlib.Omega.{arith}
 use Rattle.history_show.proofs.entries.Goals as goal
 
