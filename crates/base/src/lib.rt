@@ -13,7 +13,7 @@ pub fn elapsed(since: u64, now: u64) -> u64
 }
 
 // One more, up to the largest count.
-#[tactic(auto, unfolding(crate::specs::Count::more_of))]
+#[tactic(auto, using(crate::specs::Count::more_is))]
 pub fn more(n: u32) -> u32
     ensures { result ≡ more_of n }
 {
@@ -27,6 +27,7 @@ pub fn least(a: usize, b: usize) -> usize
 }
 
 // Writes bytes over the start of others.
+#[tactic(auto, unfolding(crate::specs::Write::over))]
 pub fn copy(from: &[u8], to: &mut [u8])
     requires { length from.now ≤ length to.old }
     ensures { to.new ≡ over to.old 0 from.now }

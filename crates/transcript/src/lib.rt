@@ -140,15 +140,13 @@ pub fn feed(line: Line, input: &[u8], out: &mut [u8]) -> Fed
     ensures value { result ≡ fed_of line input.now out.old }
     ensures out_after { out.new ≡ over out.old 0 (part_text line (usable input.now out.old)) }
 {
-    let n = base::least(input.len(), out.len() / 9);
+    let n = input.len().min(out.len() / 9);
     let mut current = line;
     let mut at = 0;
-    let mut i = 0;
-    while i < n {
+    for i in 0..n {
         let s = step(current, input[i], out, at);
         current = s.line;
         at = s.at;
-        i += 1;
     }
     Fed {
         line: current,
