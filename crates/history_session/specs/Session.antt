@@ -13,6 +13,7 @@ use borrow.Author.Tests.{eq-eqb, ne_eqb, eqb-true, le-leb}
 use Rattle.base.specs.Choice.{pick}
 use Rattle.base.specs.Letters.{letters}
 use Rattle.base.specs.Times.{times}
+use Rattle.std.specs.Option.{is_some}
 use Rattle.text.specs.Cut.{head_of, tail_of, same_of}
 use Rattle.numeral.specs.Decimal.{number_of}
 use Rattle.hex_text.specs.Pairs.{is_pairs, pairs, hexes, bytes_of, read_of}
@@ -22,8 +23,6 @@ use Rattle.base.specs.Write.{over}
 use Rattle.link.specs.declared.FeatureSupport.{FeatureSupport}
 use Rattle.link.specs.declared.FeatureSupport.TheVariants.{Unknown, Yes, No}
 use Rattle.pid.specs.Lengths.{data_length_of}
-use Rattle.pid.specs.declared.DataLength.{DataLength}
-use Rattle.pid.specs.declared.DataLength.TheVariants as length-of
 use Rattle.rounds.specs.declared.Kind.{Kind}
 use Rattle.rounds.specs.declared.Learnt.{Learnt}
 use Rattle.rounds.specs.declared.Kind.TheVariants.{Replied, TimedOut, Lost}
@@ -58,21 +57,8 @@ unfoldable pub bit_in : List ℕ → ℕ → Bool
 bit_in bits p = bit_of (get_or bits (p / 8) 0) (p % 8)
 
 -- "the PIDs of pid.rs's table"
-abbrev pub is_known : DataLength → Bool
-is_known (length-of.Known n) = true
-is_known length-of.Unknown = false
-
 unfoldable pub has_length : ℕ → Bool
-has_length p = is_known (data_length_of p)
-
-module _ (p : ℕ) where
-  pub length_known : (n : ℕ) → data_length_of p ≡ length-of.Known n → true ≡ has_length p
-  unfolding has_length
-  length_known n e = rw e
-
-  pub length_unknown : data_length_of p ≡ length-of.Unknown → false ≡ has_length p
-  unfolding has_length
-  length_unknown e = rw e
+has_length p = is_some (data_length_of p)
 
 pub bit_0 : (b : ℕ) → eqb (b % 2) 1 ≡ bit_of b 0
 unfolding bit_of

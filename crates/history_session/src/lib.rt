@@ -5,7 +5,6 @@ ghost use Rattle.std.specs.Prelude.{◌≡◌, ◌<◌};
 ghost use Rattle.history_session.specs.Session.{state_of, kind_of, learnt_of, has_length, table_of, bit_of, bit_in, known_of};
 
 use link::FeatureSupport;
-use pid::DataLength;
 use rounds::{Kind, Learnt};
 use std::array;
 
@@ -14,10 +13,7 @@ use std::array;
 fn has_length(p: u8) -> bool
     ensures { result ≡ has_length p }
 {
-    match pid::data_length(p) {
-        DataLength::Known(_) => true,
-        DataLength::Unknown => false,
-    }
+    pid::data_length(p).is_some()
 }
 
 // The PIDs of pid.rs's table.
