@@ -11,7 +11,6 @@ ghost use Rattle.history_said.specs.Texts.{held_of, lines_text, reading_text, co
 
 use config::PidPriority;
 use control::DongleMessage;
-use control_line::Taken;
 use link::Connecting;
 use obd2::rest::Notes;
 use obd2::{Answer, Said};
@@ -234,12 +233,12 @@ fn asked(
 }
 
 // What the poller takes off the control line.
-fn taken(out: &mut [u8], at: usize, taken: Taken) -> usize
+fn taken(out: &mut [u8], at: usize, taken: Option<DongleMessage>) -> usize
     ensures { Wrote out.old at (taken_text taken) out.new result }
 {
     match taken {
-        Taken::Message(message) => control(out, at, message),
-        Taken::Nothing => writing::put(out, at, b"none"),
+        Some(message) => control(out, at, message),
+        None => writing::put(out, at, b"none"),
     }
 }
 

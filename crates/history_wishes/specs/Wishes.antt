@@ -1,6 +1,5 @@
 -- SETTINGS and PROFILE: fields parted by commas, in document 01's order. 44 is `,`. A bad field makes all bad.
 use Rattle.std.specs.Prelude.{List, ℕ, eqb, Option, Some, None}
-use Rattle.std.specs.Option.{is_some, unwrap_or}
 use Rattle.base.specs.Choice.{pick}
 use Rattle.base.specs.Times.{times}
 use Rattle.text.specs.Cut.{head_of, tail_of}
@@ -52,5 +51,5 @@ profile_of s =
     given (byte_of (head_of 44 (third s))) (λ r.
     given (threshold_of (head_of 44 (fourth s))) (λ t.
     given (flag_of (fifth s)) (λ e.
-    Some (record { kind = k; pid = p; priority = r; limited = is_some t; threshold = unwrap_or t 0; enabled = e })))))))
+    Some (record { kind = k; pid = p; priority = r; threshold = t; enabled = e })))))))
     None

@@ -62,8 +62,7 @@ pub fn profile(s: &[u8]) -> Option<Profile>
         kind,
         pid,
         priority,
-        limited: threshold.is_some(),
-        threshold: threshold.unwrap_or(0),
+        threshold,
         enabled,
     })
 }
