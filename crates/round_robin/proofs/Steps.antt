@@ -12,7 +12,7 @@ use Rattle.link.specs.Cases.{connect_already, fail_already, reconnect_connected}
 use Rattle.link.specs.Rules.{is_no}
 use Rattle.pid_list.specs.Members.{Sound}
 use Rattle.pid_list.specs.Robin.{next_none, next_some, next_sound}
-use Rattle.pid_list.specs.Rules.{size_of, next_of as nextPid}
+use Rattle.pid_list.specs.Rules.{size_of, found, next_of as nextPid}
 use Rattle.pid_list.specs.declared.PidList.{PidList}
 use Rattle.plan.specs.Steps.{padded}
 use Rattle.poll_laws.proofs.Rounds.{result_settled}
@@ -107,7 +107,7 @@ module _ (st : Settings) (nofast : Bool) where
       unfolding issue_of end_of pids_of padded rounds_in
       slow_marks =
           cases _ (slow_passes p t)
-          (λ e. cases _ (nextPid p.slow).found
+          (λ e. cases _ (found (nextPid p.slow))
           (λ f. rw (slow_sent p t e (rw (f, up))) (λ k x. tested st nofast (passed (finds true e) f) (k over (record { within = at_slow; own = λ _. own; standing = v }) _)))
           (λ f. rw (slow_unsent p t e (rw f)) (λ k x. silent st nofast (unsent (finds true e) f) (k idle (record { within = at_closed; own = λ z. false_true z; standing = v })))))
           (λ e. rw (slow_not p t e) (λ k x. silent st nofast (failed (finds false e)) (k idle (record { within = at_closed; own = λ z. false_true z; standing = v }))))
