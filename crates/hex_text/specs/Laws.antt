@@ -1,5 +1,5 @@
 -- Laws of the definitions of `Pairs`.
-use Rattle.std.specs.Prelude.{Bool, true, false, ◌&&◌, ◌≡◌, refl, ℕ, zero, suc, ◌+◌, ◌-◌, ◌*◌, ◌/◌, ◌%◌, ◌<◌, ◌≤◌, eqb, ltb, take, drop}
+use Rattle.std.specs.Prelude.{Bool, true, false, ◌&&◌, ◌≡◌, refl, ℕ, zero, suc, ◌+◌, ◌-◌, ◌*◌, ◌/◌, ◌%◌, ◌<◌, ◌≤◌, eqb, ltb, take, drop, Err}
 use mathlib.Core.List.{List, [], ◌∷◌, ◌++◌}
 use Rattle.std.proofs.Math.Path.{ap, sym}
 use Rattle.std.proofs.Common.{◌∙◌, length-drop, drop_of_length-le, drop-cons, take_all, length-take-le}
@@ -12,8 +12,8 @@ use Rattle.ascii.specs.Chars.{hex_value, hex_digit}
 use Rattle.base.specs.Choice.{cases, false_true}
 use Rattle.base.specs.Letters.{letter}
 use Rattle.base.specs.Write.{over, over_none, over_one, over_length, over_over, over_cons}
-use Rattle.hex_text.specs.declared.Bytes.TheVariants.{Bad}
 use Rattle.hex_text.specs.Pairs.{is_hex, pair_of, hexes, is_pairs, pairs, bytes_of, read_of, plain_of, copy_of, command_of, command_bytes, hex_text, Filled}
+use Rattle.hex_text.specs.declared.Unread.TheVariants as unread
 
 -- The highest of the values so far, and of one more: all are digits if it is one.
 module _ (h v : ℕ) (x : Bool) where
@@ -132,7 +132,7 @@ module _ (d : List ℕ) (at : ℕ) (bytes : List ℕ) (fits : at + 2 * length by
 
 -- The cases of a command's text, by its first byte.
 module _ (room : ℕ) (d : List ℕ) where
-  pub command_none : (s : List ℕ) → length s ≡ 0 → (command_of room s ≡ Bad) × (command_bytes d s ≡ d)
+  pub command_none : (s : List ℕ) → length s ≡ 0 → (command_of room s ≡ Err unread.Bad) × (command_bytes d s ≡ d)
   unfolding command_of command_bytes
   command_none [] h = (refl, refl)
   command_none (b ∷ s) h = absurd (omega arith)
@@ -150,7 +150,7 @@ module _ (room : ℕ) (d : List ℕ) where
   command_pairs (b ∷ s) h k e = (rw (ne_eqb b (letter "'") k, eq-eqb b (letter "x") e), rw (ne_eqb b (letter "'") k, eq-eqb b (letter "x") e))
 
   pub command_other : (s : List ℕ) → (length s ≡ 0 → ⊥) → (get_or s 0 0 ≡ letter "'" → ⊥) → (get_or s 0 0 ≡ letter "x" → ⊥)
-      → (command_of room s ≡ Bad) × (command_bytes d s ≡ d)
+      → (command_of room s ≡ Err unread.Bad) × (command_bytes d s ≡ d)
   unfolding command_of command_bytes
   command_other [] h k e = absurd (h refl)
   command_other (b ∷ s) h k e = (rw (ne_eqb b (letter "'") k, ne_eqb b (letter "x") e), rw (ne_eqb b (letter "'") k, ne_eqb b (letter "x") e))

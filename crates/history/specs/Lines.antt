@@ -1,11 +1,9 @@
 -- A line as a call: its word, its time, and what the word's row has behind it (history-format.md, "Calls of the
 -- box"), as far as that is told before a list is read. A line is its tokens, parted by one space.
-use Rattle.std.specs.Prelude.{List, [], ◌∷◌, ◌≡◌, ℕ, take, drop}
+use Rattle.std.specs.Prelude.{List, [], ◌∷◌, ◌≡◌, ℕ, take, drop, Option, Some, None}
 use Rattle.base.specs.Choice.{pick}
 use Rattle.text.specs.Cut.{place_of, same_of}
 use Rattle.numeral.specs.Decimal.{number_of}
-use Rattle.numeral.specs.declared.Number.{Number}
-use Rattle.numeral.specs.declared.Number.TheVariants as number
 use Rattle.config.specs.Blank.{no_profiles}
 use Rattle.obd2.specs.declared.call.Brought.{Brought}
 use Rattle.history_items.specs.Items.{split_of, items_of, split_first}
@@ -26,9 +24,9 @@ nothing_brought = record { profiles = no_profiles; response = no_response; sessi
 unfoldable pub untimed_of : List ℕ → Tokens → Line
 untimed_of w ts = pick (same_of w show') (pick (none_of ts) line.Show line.Bad) line.Bad
 
-abbrev pub on_time : {A : Type 0} → Number → (ℕ → A) → A → A
-on_time (number.Value t) f none = f t
-on_time number.Bad f none = none
+abbrev pub on_time : {A : Type 0} → Option ℕ → (ℕ → A) → A → A
+on_time (Some t) f none = f t
+on_time None f none = none
 
 -- The largest time.
 abbrev pub last : ℕ
@@ -53,12 +51,12 @@ module _ (room : ℕ) (s d : List ℕ) (n : ℕ) (e : n ≡ place_of 32 s) where
     cut : split_of 32 s ≡ w ∷ ts
     cut = rw (f, g, e) (split_first 32 s)
 
-    pub line_timed : (t : ℕ) → number_of last (first_of ts) ≡ number.Value t
+    pub line_timed : (t : ℕ) → number_of last (first_of ts) ≡ Some t
         → (timed_line room t (rest_of ts) (word_of w) ≡ line_of room (split_of 32 s)) × (timed_bytes d (rest_of ts) (word_of w) ≡ lent_of d (split_of 32 s))
     unfolding line_of lent_of
     line_timed t h = (rw (cut, h), rw (cut, h))
 
-    pub line_untimed : number_of last (first_of ts) ≡ number.Bad
+    pub line_untimed : number_of last (first_of ts) ≡ None
         → (untimed_of w ts ≡ line_of room (split_of 32 s)) × (d ≡ lent_of d (split_of 32 s))
     unfolding line_of lent_of
     line_untimed h = (rw (cut, h), rw (cut, h))

@@ -1,18 +1,12 @@
 -- The two stages of reading a line come to what it means: `line_of` tells what it is, `read_of` is what the host makes of
 -- that with the list that the line brings.
-use Rattle.std.specs.Prelude.{Bool, ◌≡◌, ℕ}
+use Rattle.std.specs.Prelude.{Bool, ◌≡◌, ℕ, Option, Some, None, Result, Ok, Err}
 use Rattle.std.proofs.Math.Bool.{true, false}
 use mathlib.Core.List.{List, [], ◌∷◌}
 use Rattle.std.proofs.Math.Path.{refl}
 use Rattle.base.specs.Choice.{pick, cases}
 use Rattle.numeral.specs.Decimal.{number_of}
-use Rattle.numeral.specs.declared.Number.{Number}
-use Rattle.numeral.specs.declared.Number.TheVariants as number
 use Rattle.hex_text.specs.Pairs.{pid_of}
-use Rattle.hex_text.specs.declared.Byte.{Byte}
-use Rattle.hex_text.specs.declared.Byte.TheVariants as byte
-use Rattle.hex_text.specs.declared.Bytes.{Bytes}
-use Rattle.hex_text.specs.declared.Bytes.TheVariants as bytes
 use Rattle.text.specs.Cut.{same_of}
 use Rattle.obd2.specs.declared.call.Call.{Call}
 use Rattle.obd2.specs.declared.call.Call.TheVariants as call
@@ -50,6 +44,7 @@ use Rattle.history_calls.specs.declared.Line.{Line}
 use Rattle.history_calls.specs.declared.Line.TheVariants as line
 use Rattle.history.specs.Lines.{untimed_of, on_time, last, line_of, behind_time}
 use Rattle.history.specs.Meaning.{Parsed, parsed, bare, with_profiles, with_response, with_session, with_outcome, as_start, start_of, as_profiles, as_response, as_connected, connected_of, as_connect, connect_of, as_result, result_of, timed_of, parsed_of}
+use Rattle.hex_text.specs.declared.Unread.{Unread}
 
 -- What is made of a list that was read: a good one is brought and the line asks for what it was told to, a bad one
 -- makes the line bad.
@@ -103,37 +98,36 @@ module _ (due : Bool) (asked : ℕ) (b : Brought) (qs : Tokens) (t : ℕ) where
   client_read f (word32.Value n) ts = alone_read (f n) ts
   client_read f word32.Bad ts = refl
 
-  pid_read : (p : Byte) (ts : Tokens) → read_of due asked b qs (of_pid t p ts) ≡ parsed b (of_pid t p ts)
+  pid_read : (p : Option ℕ) (ts : Tokens) → read_of due asked b qs (of_pid t p ts) ≡ parsed b (of_pid t p ts)
   unfolding read_of
-  pid_read (byte.Value p) ts = alone_read (call.Waiting p) ts
-  pid_read byte.Bad ts = refl
+  pid_read (Some p) ts = alone_read (call.Waiting p) ts
+  pid_read None ts = refl
 
   settings_read : (s : SettingsToken) (ts : Tokens) → read_of due asked b qs (of_settings t s ts) ≡ parsed b (of_settings t s ts)
   unfolding read_of
   settings_read (settings.Value s) ts = alone_read (call.SetSettings s) ts
   settings_read settings.Bad ts = refl
 
-  consumed_read : (p : Byte) (w : WaitToken) (ts : Tokens) → read_of due asked b qs (of_consumed t p w ts) ≡ parsed b (of_consumed t p w ts)
+  consumed_read : (p : Option ℕ) (w : WaitToken) (ts : Tokens) → read_of due asked b qs (of_consumed t p w ts) ≡ parsed b (of_consumed t p w ts)
   unfolding read_of of_consumed
-  consumed_read (byte.Value p) (wait.Value w) ts = alone_read (call.Consumed p w) ts
-  consumed_read byte.Bad w ts = refl
-  consumed_read (byte.Value p) wait.Bad ts = refl
+  consumed_read (Some p) (wait.Value w) ts = alone_read (call.Consumed p w) ts
+  consumed_read None w ts = refl
+  consumed_read (Some p) wait.Bad ts = refl
 
-  collect_read : (n : Word32) (a : Number) (e : Bool) → read_of due asked b qs (of_collect t n a e) ≡ parsed b (of_collect t n a e)
+  collect_read : (n : Word32) (a : Option ℕ) (e : Bool) → read_of due asked b qs (of_collect t n a e) ≡ parsed b (of_collect t n a e)
   unfolding read_of of_collect
-  collect_read (word32.Value n) (number.Value a) true = refl
+  collect_read (word32.Value n) (Some a) true = refl
   collect_read word32.Bad a e = refl
-  collect_read (word32.Value n) number.Bad e = refl
-  collect_read (word32.Value n) (number.Value a) false = refl
+  collect_read (word32.Value n) None e = refl
+  collect_read (word32.Value n) (Some a) false = refl
 
-  ask_read : (n : Word32) (a : Number) (e : Bool) (k : Bytes) → read_of due asked b qs (of_ask t n a e k) ≡ parsed b (of_ask t n a e k)
+  ask_read : (n : Word32) (a : Option ℕ) (e : Bool) (k : Result ℕ Unread) → read_of due asked b qs (of_ask t n a e k) ≡ parsed b (of_ask t n a e k)
   unfolding read_of of_ask
-  ask_read (word32.Value n) (number.Value a) true (bytes.Count k) = refl
+  ask_read (word32.Value n) (Some a) true (Ok k) = refl
   ask_read word32.Bad a e k = refl
-  ask_read (word32.Value n) number.Bad e k = refl
-  ask_read (word32.Value n) (number.Value a) false k = refl
-  ask_read (word32.Value n) (number.Value a) true bytes.Bad = refl
-  ask_read (word32.Value n) (number.Value a) true bytes.Short = refl
+  ask_read (word32.Value n) None e k = refl
+  ask_read (word32.Value n) (Some a) false k = refl
+  ask_read (word32.Value n) (Some a) true (Err u) = refl
 
   -- the others, behind whose time ts stands
   module _ (ts : Tokens) (at : behind_time qs ≡ ts) where
@@ -171,12 +165,12 @@ module _ (due : Bool) (asked room : ℕ) (b : Brought) where
   untimed_read qs ts w = cases _ (same_of w show') (λ e. rw e (cases _ (none_of ts) (λ f. rw f) (λ f. rw f))) (λ e. rw e)
 
   -- behind its word, with the time or without
-  line_read : (w : List ℕ) (ts : Tokens) (n : Number)
+  line_read : (w : List ℕ) (ts : Tokens) (n : Option ℕ)
       → read_of due asked b (w ∷ ts) (on_time n (λ t. timed_line room t (rest_of ts) (word_of w)) (untimed_of w ts))
       ≡ on_time n (λ t. timed_of due asked room b t (rest_of ts) (word_of w)) (parsed b (untimed_of w ts))
   unfolding behind_time rest_of
-  line_read w ts (number.Value t) = timed_read due asked b (w ∷ ts) t (rest_of ts) refl room (word_of w)
-  line_read w ts number.Bad = untimed_read (w ∷ ts) ts w
+  line_read w ts (Some t) = timed_read due asked b (w ∷ ts) t (rest_of ts) refl room (word_of w)
+  line_read w ts None = untimed_read (w ∷ ts) ts w
 
   -- What a line means is what its list makes of what it was told to be.
   pub two_stages : (ts : Tokens) → read_of due asked b ts (line_of room ts) ≡ parsed_of due asked room b ts

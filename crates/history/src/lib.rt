@@ -10,7 +10,6 @@ ghost use Rattle.history.specs.Lines.{nothing_brought, untimed_of, line_of, lent
 
 use history_calls::{Line, bringing};
 use history_items::rest;
-use numeral::Number;
 use obd2::call::Brought;
 
 // what a line brings
@@ -51,12 +50,12 @@ pub fn parse(line: &[u8], bytes: &mut [u8]) -> Line
     let word = &line[..end];
     let rest = &line[end..];
     match numeral::read(rest::first(rest), u64::MAX) {
-        Number::Value(time) => history_calls::timed(
+        Some(time) => history_calls::timed(
             history_words::of(word),
             time,
             rest::behind(rest),
             bytes,
         ),
-        Number::Bad => untimed(word, rest),
+        None => untimed(word, rest),
     }
 }

@@ -4,11 +4,9 @@ ghost use Rattle.history_items.specs.Items.{items_of};
 ghost use Rattle.history_calls.specs.Plain.{alone_of, leave_of, give_up_of, waiting_of, set_of, consumed_of, collect_of, ask_of, ask_bytes};
 
 use super::Line;
-use hex_text::{Byte, Bytes};
 use history_items::rest;
 use history_numbers::{WaitToken, Word32};
 use history_wishes::SettingsToken;
-use numeral::Number;
 use obd2::call::Call;
 
 // The largest area that a call lends.
@@ -59,21 +57,20 @@ pub fn ask(time: u64, rest: &[u8], bytes: &mut [u8]) -> Line
     let Word32::Value(client) = history_numbers::number32(rest::first(rest)) else {
         return Line::Bad;
     };
-    let Number::Value(area) = numeral::read(rest::first(third), LARGEST) else {
+    let Some(area) = numeral::read(rest::first(third), LARGEST) else {
         return Line::Bad;
     };
     if !rest::is_end(rest::behind(third)) {
         return Line::Bad;
     }
     match hex_text::command(rest::first(second), bytes) {
-        Bytes::Count(cmd) => Line::Call {
+        Ok(cmd) => Line::Call {
             time,
             call: Call::Ask(client),
             cmd,
             area: area as usize,
         },
-        Bytes::Bad => Line::Bad,
-        Bytes::Short => Line::Bad,
+        Err(_) => Line::Bad,
     }
 }
 
@@ -85,7 +82,7 @@ pub fn collect(time: u64, rest: &[u8]) -> Line
     let Word32::Value(client) = history_numbers::number32(rest::first(rest)) else {
         return Line::Bad;
     };
-    let Number::Value(area) = numeral::read(rest::first(second), LARGEST) else {
+    let Some(area) = numeral::read(rest::first(second), LARGEST) else {
         return Line::Bad;
     };
     if !rest::is_end(rest::behind(second)) {
@@ -104,8 +101,8 @@ pub fn waiting(time: u64, rest: &[u8]) -> Line
     ensures { result ≡ waiting_of time (items_of 32 rest.now) }
 {
     match hex_text::pid(rest::first(rest)) {
-        Byte::Value(pid) => alone(time, Call::Waiting(pid), rest::behind(rest)),
-        Byte::Bad => Line::Bad,
+        Some(pid) => alone(time, Call::Waiting(pid), rest::behind(rest)),
+        None => Line::Bad,
     }
 }
 
@@ -114,7 +111,7 @@ pub fn consumed(time: u64, rest: &[u8]) -> Line
     ensures { result ≡ consumed_of time (items_of 32 rest.now) }
 {
     let second = rest::behind(rest);
-    let Byte::Value(pid) = hex_text::pid(rest::first(rest)) else {
+    let Some(pid) = hex_text::pid(rest::first(rest)) else {
         return Line::Bad;
     };
     let WaitToken::Value(wait) = history_numbers::wait(rest::first(second)) else {

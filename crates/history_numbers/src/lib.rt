@@ -5,8 +5,6 @@
 ghost use Rattle.std.specs.Prelude.{◌≡◌};
 ghost use Rattle.history_numbers.specs.Numbers.{is_none, byte_of, word32_of, flag_of, threshold_of, wait_of, ecu_of};
 
-use hex_text::Byte;
-use numeral::Number;
 use pid_table::WaitDuration;
 
 #[derive(Clone, Copy)]
@@ -42,12 +40,12 @@ fn is_none(s: &[u8]) -> bool
     text::is(s, b"-")
 }
 
-pub fn byte(s: &[u8]) -> Byte
+pub fn byte(s: &[u8]) -> Option<u8>
     ensures { result ≡ byte_of s.now }
 {
     match numeral::read(s, 255) {
-        Number::Value(n) => Byte::Value(n as u8),
-        Number::Bad => Byte::Bad,
+        Some(n) => Some(n as u8),
+        None => None,
     }
 }
 
@@ -55,8 +53,8 @@ pub fn number32(s: &[u8]) -> Word32
     ensures { result ≡ word32_of s.now }
 {
     match numeral::read(s, 4294967295) {
-        Number::Value(n) => Word32::Value(n as u32),
-        Number::Bad => Word32::Bad,
+        Some(n) => Word32::Value(n as u32),
+        None => Word32::Bad,
     }
 }
 
@@ -64,8 +62,8 @@ pub fn flag(s: &[u8]) -> FlagToken
     ensures { result ≡ flag_of s.now }
 {
     match numeral::read(s, 1) {
-        Number::Value(n) => FlagToken::Value(n == 1),
-        Number::Bad => FlagToken::Bad,
+        Some(n) => FlagToken::Value(n == 1),
+        None => FlagToken::Bad,
     }
 }
 
@@ -94,25 +92,25 @@ pub fn wait(s: &[u8]) -> WaitToken
         return WaitToken::Value(WaitDuration::Hit);
     }
     match numeral::read(s, u64::MAX) {
-        Number::Value(n) => WaitToken::Value(WaitDuration::Miss(n)),
-        Number::Bad => WaitToken::Bad,
+        Some(n) => WaitToken::Value(WaitDuration::Miss(n)),
+        None => WaitToken::Bad,
     }
 }
 
 // A count of control units, of which there is at least one; 0 stands for none.
-pub fn ecu(s: &[u8]) -> Byte
+pub fn ecu(s: &[u8]) -> Option<u8>
     ensures { result ≡ ecu_of s.now }
 {
     if is_none(s) {
-        return Byte::Value(0);
+        return Some(0);
     }
     match byte(s) {
-        Byte::Value(n) => {
+        Some(n) => {
             if n == 0 {
-                return Byte::Bad;
+                return None;
             }
-            Byte::Value(n)
+            Some(n)
         }
-        Byte::Bad => Byte::Bad,
+        None => None,
     }
 }

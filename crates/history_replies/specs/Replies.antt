@@ -1,7 +1,7 @@
 -- The lines of a REPLY and of a RANGE: "a LINE being hex pairs, possibly none". "More .. lines or bytes than the
 -- box takes are passed on to it": a count stops at 255, and bytes that a reply has no room for are left out.
 -- 44 is `,`, 58 is `:`.
-use Rattle.std.specs.Prelude.{Bool, false, ◌&&◌, List, [], ◌∷◌, ◌++◌, ◌≡◌, ℕ, zero, suc, ◌+◌, ◌-◌, ◌*◌, ◌/◌, ◌%◌, ◌<◌, ◌≤◌, min, eqb, ltb, length, get_or, drop, set}
+use Rattle.std.specs.Prelude.{Bool, false, ◌&&◌, List, [], ◌∷◌, ◌++◌, ◌≡◌, ℕ, zero, suc, ◌+◌, ◌-◌, ◌*◌, ◌/◌, ◌%◌, ◌<◌, ◌≤◌, min, eqb, ltb, length, get_or, drop, set, Option, Some, None, Result}
 use Rattle.std.proofs.Math.Bool.{true}
 use Rattle.std.proofs.Math.Path.{refl}
 use Rattle.std.proofs.Common.{sym, length-take, length-drop, take-append-drop}
@@ -17,9 +17,6 @@ use Rattle.base.specs.Write.{over, over_lent}
 use Rattle.text.specs.Cut.{same_of}
 use Rattle.hex_text.specs.Pairs.{is_hex, hexes, is_pairs, pairs, bytes_of, read_of, pid_of}
 use Rattle.hex_text.specs.Laws.{pairs_length}
-use Rattle.hex_text.specs.declared.Bytes.{Bytes}
-use Rattle.hex_text.specs.declared.Byte.{Byte}
-use Rattle.hex_text.specs.declared.Byte.TheVariants as byte
 use Rattle.reply.specs.Rules.{empty_reply}
 use Rattle.reply.specs.declared.Reply.{Reply}
 use Rattle.history_items.specs.Items.{items_of, more_of, end_of, items_next, items_none}
@@ -29,6 +26,7 @@ use Rattle.history_replies.specs.declared.RangeToken.{RangeToken}
 use Rattle.history_replies.specs.declared.Placed.{Placed}
 use Rattle.history_replies.specs.declared.Filled.{Filled}
 use Rattle.history_replies.specs.declared.Added.{Added}
+use Rattle.hex_text.specs.declared.Unread.{Unread}
 
 -- Pairs put at a place, if they have room there.
 unfoldable pub put_at : List ℕ → ℕ → List ℕ → List ℕ
@@ -94,10 +92,10 @@ is_lines (b ∷ s) = eqb b 58
 abbrev pub no_pid : PidToken
 no_pid = record { reply = empty_reply; pid = 0; good = false }
 
-unfoldable pub as_reply : Byte → Bool → ReplyToken → PidToken
-as_reply (byte.Value p) true t = record { reply = t.reply; pid = p; good = t.good }
-as_reply byte.Bad l t = no_pid
-as_reply (byte.Value p) false t = no_pid
+unfoldable pub as_reply : Option ℕ → Bool → ReplyToken → PidToken
+as_reply (Some p) true t = record { reply = t.reply; pid = p; good = t.good }
+as_reply None l t = no_pid
+as_reply (Some p) false t = no_pid
 
 unfoldable pub reply_of : List ℕ → PidToken
 reply_of s = pick (ltb (length s) 2) no_pid (as_reply (pid_of (take 2 s)) (is_lines (drop 2 s)) (lines_of (drop 2 s)))
@@ -134,7 +132,7 @@ module _ (d : List ℕ) (at : ℕ) (s p : List ℕ) (h : at ≤ 64) (n : length 
       (λ g. let k : p ≡ take (64 - at) (drop at d) = rw (f, r, g) at e in rw (f, g, k) back))
       (λ f. let k : p ≡ take (64 - at) (drop at d) = rw f at e in rw (f, k) back)
 
-pub placed : (d : List ℕ) (at : ℕ) (s b : List ℕ) (r : Bytes) → b ≡ put_at d at s → r ≡ bytes_of (64 - at) s → record { bytes = b; read = r } ≡ placed_of d at s
+pub placed : (d : List ℕ) (at : ℕ) (s b : List ℕ) (r : Result ℕ Unread) → b ≡ put_at d at s → r ≡ bytes_of (64 - at) s → record { bytes = b; read = r } ≡ placed_of d at s
 placed d at s b r e f = rw (e, f)
 
 -- The first k bytes of a line are those of its first k pairs.
@@ -222,10 +220,10 @@ unfolding is_lines
 is_lines_some [] h = absurd (h refl)
 is_lines_some (b ∷ s) h = refl
 
-reply_2 : (p : Byte) (t : ReplyToken) → as_reply p false t ≡ no_pid
+reply_2 : (p : Option ℕ) (t : ReplyToken) → as_reply p false t ≡ no_pid
 unfolding as_reply
-reply_2 (byte.Value p) t = refl
-reply_2 byte.Bad t = refl
+reply_2 (Some p) t = refl
+reply_2 None t = refl
 
 module _ (s : List ℕ) where
   pub reply_short : length s < 2 → no_pid ≡ reply_of s
@@ -233,7 +231,7 @@ module _ (s : List ℕ) where
   reply_short h = rw (lt-ltb (length s) 2 h)
 
   module _ (h : 2 ≤ length s) where
-    pub reply_bad_1 : pid_of (take 2 s) ≡ byte.Bad → no_pid ≡ reply_of s
+    pub reply_bad_1 : pid_of (take 2 s) ≡ None → no_pid ≡ reply_of s
     unfolding reply_of as_reply
     reply_bad_1 e = rw (le-ltb (length s) 2 h, e)
 
@@ -241,7 +239,7 @@ module _ (s : List ℕ) where
     unfolding reply_of
     reply_bad_2 e = rw (le-ltb (length s) 2 h, e) (sym (reply_2 _ _))
 
-    pub reply_good : (p : ℕ) (t : ReplyToken) → pid_of (take 2 s) ≡ byte.Value p → is_lines (drop 2 s) ≡ true → t ≡ lines_of (drop 2 s)
+    pub reply_good : (p : ℕ) (t : ReplyToken) → pid_of (take 2 s) ≡ Some p → is_lines (drop 2 s) ≡ true → t ≡ lines_of (drop 2 s)
         → record { reply = t.reply; pid = p; good = t.good } ≡ reply_of s
     unfolding reply_of as_reply
     reply_good p t a b e = rw (le-ltb (length s) 2 h, a, b, e)

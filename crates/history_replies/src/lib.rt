@@ -5,7 +5,7 @@
 ghost use Rattle.std.specs.Prelude.{◌≡◌, ◌≤◌};
 ghost use Rattle.history_replies.specs.Replies.{placed_of, filled_of, short_of, count_line, added_of, lines_of, no_pid, is_lines, reply_of, empty_range, range_of};
 
-use hex_text::{Byte, Bytes};
+use hex_text::Unread;
 use reply::{MAX_BYTES, MAX_LINES, RangeReply, Reply};
 
 // The lines' reply, an empty one where the token is bad.
@@ -33,7 +33,7 @@ pub struct RangeToken {
 #[derive(Clone, Copy)]
 struct Placed {
     bytes: [u8; MAX_BYTES],
-    read: Bytes,
+    read: Result<usize, Unread>,
 }
 
 // The bytes of a reply after a line, and the bytes that are taken of its MAX_BYTES.
@@ -70,12 +70,12 @@ fn fill(bytes: [u8; MAX_BYTES], at: usize, s: &[u8]) -> Filled
     let read = whole.read;
     let after = whole.bytes;
     match read {
-        Bytes::Count(n) => Filled {
+        Ok(n) => Filled {
             bytes: after,
             fill: at + n,
             good: true,
         },
-        Bytes::Short => {
+        Err(Unread::Short) => {
             let room = 2 * (MAX_BYTES - at);
             let start = place(bytes, at, &s[..room]);
             let cut = start.bytes;
@@ -85,7 +85,7 @@ fn fill(bytes: [u8; MAX_BYTES], at: usize, s: &[u8]) -> Filled
                 good: true,
             }
         }
-        Bytes::Bad => Filled {
+        Err(Unread::Bad) => Filled {
             bytes: after,
             fill: at,
             good: false,
@@ -180,7 +180,7 @@ pub fn reply(s: &[u8]) -> PidToken
     if s.len() < 2 {
         return bad_reply();
     }
-    let Byte::Value(pid) = hex_text::pid(&s[..2]) else {
+    let Some(pid) = hex_text::pid(&s[..2]) else {
         return bad_reply();
     };
     if !is_lines(&s[2..]) {

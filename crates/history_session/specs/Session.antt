@@ -1,5 +1,5 @@
 -- KNOWN, STATE, a result's KIND and LEARNT. 44 is `,`.
-use Rattle.std.specs.Prelude.{Bool, true, false, ◌&&◌, List, [], ◌∷◌, ◌++◌, ◌≡◌, refl, ℕ, zero, suc, ◌+◌, ◌/◌, ◌%◌, ◌^◌, ◌<◌, eqb, get_or, take, set, replicate}
+use Rattle.std.specs.Prelude.{Bool, true, false, ◌&&◌, List, [], ◌∷◌, ◌++◌, ◌≡◌, refl, ℕ, zero, suc, ◌+◌, ◌/◌, ◌%◌, ◌^◌, ◌<◌, eqb, get_or, take, set, replicate, Option, Some, None, Result, Err}
 use Rattle.std.proofs.Common.{append-nil, ap, sym, add-one, take-suc-set}
 use native.Mathlib.Omega.{arith}
 use Rattle.std.proofs.Math.ListN.{length}
@@ -7,20 +7,18 @@ use borrow.Author.Tests.{eq-eqb, ne_eqb, eqb-true, le-leb}
 use Rattle.base.specs.Choice.{pick}
 use Rattle.base.specs.Letters.{letters}
 use Rattle.base.specs.Times.{times}
+use Rattle.std.specs.Option.{is_some}
 use Rattle.text.specs.Cut.{head_of, tail_of, same_of}
 use Rattle.numeral.specs.Decimal.{number_of}
-use Rattle.numeral.specs.declared.Number.{Number}
-use Rattle.numeral.specs.declared.Number.TheVariants as number
-use Rattle.hex_text.specs.Pairs.{is_pairs, pairs, hexes, read_of}
+use Rattle.hex_text.specs.Pairs.{is_pairs, pairs, hexes, bytes_of, read_of}
+use Rattle.hex_text.specs.Room.{bad_says, short_says}
+use Rattle.hex_text.specs.declared.Unread.{Unread}
+use Rattle.hex_text.specs.declared.Unread.TheVariants as unread
 use Rattle.hex_text.specs.Laws.{pairs_length}
 use Rattle.base.specs.Both.{both_left}
 use Rattle.base.specs.Write.{over}
-use Rattle.hex_text.specs.declared.Byte.{Byte}
-use Rattle.hex_text.specs.declared.Byte.TheVariants as byte
 use Rattle.link.specs.declared.FeatureSupport.TheVariants.{Unknown, Yes, No}
 use Rattle.pid.specs.Lengths.{data_length_of}
-use Rattle.pid.specs.declared.DataLength.{DataLength}
-use Rattle.pid.specs.declared.DataLength.TheVariants as length-of
 use Rattle.rounds.specs.declared.Kind.TheVariants.{Replied, TimedOut, Lost}
 use Rattle.history_numbers.specs.Numbers.{ecu_of, flag_of}
 use Rattle.history_numbers.specs.declared.FlagToken.{FlagToken}
@@ -34,34 +32,34 @@ use Rattle.history_session.specs.declared.LearntToken.{LearntToken}
 use Rattle.history_session.specs.declared.LearntToken.TheVariants as learnt
 
 -- "0 unknown, 1 yes, 2 no"
-abbrev pub as_state : Number → StateToken
-as_state (number.Value n) = pick (eqb n 0) (state.Value Unknown) (pick (eqb n 1) (state.Value Yes) (state.Value No))
-as_state number.Bad = state.Bad
+abbrev pub as_state : Option ℕ → StateToken
+as_state (Some n) = pick (eqb n 0) (state.Value Unknown) (pick (eqb n 1) (state.Value Yes) (state.Value No))
+as_state None = state.Bad
 
 unfoldable pub state_of : List ℕ → StateToken
 state_of s = as_state (number_of 2 s)
 
 -- "KIND 0 replied, 1 timed out, 2 connection lost"
-abbrev pub as_kind : Number → KindToken
-as_kind (number.Value n) = pick (eqb n 0) (kind.Value Replied) (pick (eqb n 1) (kind.Value TimedOut) (kind.Value Lost))
-as_kind number.Bad = kind.Bad
+abbrev pub as_kind : Option ℕ → KindToken
+as_kind (Some n) = pick (eqb n 0) (kind.Value Replied) (pick (eqb n 1) (kind.Value TimedOut) (kind.Value Lost))
+as_kind None = kind.Bad
 
 unfoldable pub kind_of : List ℕ → KindToken
 kind_of s = as_kind (number_of 2 s)
 
-unfoldable pub as_learnt : Byte → FlagToken → LearntToken
-as_learnt (byte.Value n) (flag.Value k) = learnt.Value (record { ecu = n; known = k })
-as_learnt byte.Bad k = learnt.Bad
-as_learnt (byte.Value n) flag.Bad = learnt.Bad
+unfoldable pub as_learnt : Option ℕ → FlagToken → LearntToken
+as_learnt (Some n) (flag.Value k) = learnt.Value (record { ecu = n; known = k })
+as_learnt None k = learnt.Bad
+as_learnt (Some n) flag.Bad = learnt.Bad
 
 -- "ECU,LENGTH .. ECU a count of 1 to 255 or `-`, LENGTH 1 known, 0 not"
 unfoldable pub learnt_of : List ℕ → LearntToken
 learnt_of s = pick (eqb (times 44 s) 1) (as_learnt (ecu_of (head_of 44 s)) (flag_of (tail_of 44 s))) learnt.Bad
 
-learnt_2 : (n : Byte) → as_learnt n flag.Bad ≡ learnt.Bad
+learnt_2 : (n : Option ℕ) → as_learnt n flag.Bad ≡ learnt.Bad
 unfolding as_learnt
-learnt_2 (byte.Value n) = refl
-learnt_2 byte.Bad = refl
+learnt_2 (Some n) = refl
+learnt_2 None = refl
 
 module _ (s : List ℕ) where
   pub learnt_count : (times 44 s ≡ 1 → ⊥) → learnt.Bad ≡ learnt_of s
@@ -69,7 +67,7 @@ module _ (s : List ℕ) where
   learnt_count h = rw (ne_eqb (times 44 s) 1 h)
 
   module _ (h : times 44 s ≡ 1) where
-    pub learnt_bad_1 : ecu_of (head_of 44 s) ≡ byte.Bad → learnt.Bad ≡ learnt_of s
+    pub learnt_bad_1 : ecu_of (head_of 44 s) ≡ None → learnt.Bad ≡ learnt_of s
     unfolding learnt_of as_learnt
     learnt_bad_1 e = rw (eq-eqb (times 44 s) 1 h, e)
 
@@ -77,7 +75,7 @@ module _ (s : List ℕ) where
     unfolding learnt_of
     learnt_bad_2 e = rw (eq-eqb (times 44 s) 1 h, e) (sym (learnt_2 _))
 
-    pub learnt_good : (n : ℕ) (k : Bool) → ecu_of (head_of 44 s) ≡ byte.Value n → flag_of (tail_of 44 s) ≡ flag.Value k
+    pub learnt_good : (n : ℕ) (k : Bool) → ecu_of (head_of 44 s) ≡ Some n → flag_of (tail_of 44 s) ≡ flag.Value k
         → learnt.Value (record { ecu = n; known = k }) ≡ learnt_of s
     unfolding learnt_of as_learnt
     learnt_good n k a b = rw (eq-eqb (times 44 s) 1 h, a, b)
@@ -110,21 +108,8 @@ unfoldable pub bit_in : List ℕ → ℕ → Bool
 bit_in bits p = bit_of (get_or bits (p / 8) 0) (p % 8)
 
 -- "the PIDs of pid.rs's table"
-abbrev pub is_known : DataLength → Bool
-is_known (length-of.Known n) = true
-is_known length-of.Unknown = false
-
 unfoldable pub has_length : ℕ → Bool
-has_length p = is_known (data_length_of p)
-
-module _ (p : ℕ) where
-  pub length_known : (n : ℕ) → data_length_of p ≡ length-of.Known n → true ≡ has_length p
-  unfolding has_length
-  length_known n e = rw e
-
-  pub length_unknown : data_length_of p ≡ length-of.Unknown → false ≡ has_length p
-  unfolding has_length
-  length_unknown e = rw e
+has_length p = is_some (data_length_of p)
 
 pub bit_0 : (b : ℕ) → eqb (b % 2) 1 ≡ bit_of b 0
 unfolding bit_of
@@ -182,3 +167,7 @@ module _ (s : List ℕ) where
     pub known_other : (length s / 2 ≡ 32 → ⊥) → no_known ≡ known_of s
     unfolding known_of is_bits
     known_other n = rw (h, ne_eqb (length s) 64 (λ e. n (omega arith)))
+
+    pub known_unread : (r : Result ℕ Unread) (u : Unread) → r ≡ bytes_of 32 s → r ≡ Err u → no_known ≡ known_of s
+    known_unread r unread.Bad e f = known_odd (bad_says 32 s r e f)
+    known_unread r unread.Short e f = known_other (λ z. let k = short_says 32 s r e f in omega arith)

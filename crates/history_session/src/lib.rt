@@ -4,11 +4,8 @@
 ghost use Rattle.std.specs.Prelude.{◌≡◌, ◌<◌};
 ghost use Rattle.history_session.specs.Session.{state_of, kind_of, learnt_of, none_known, has_length, table_of, bit_of, bit_in, no_known, known_of};
 
-use hex_text::{Byte, Bytes};
 use history_numbers::FlagToken;
 use link::FeatureSupport;
-use numeral::Number;
-use pid::DataLength;
 use rounds::{Kind, Learnt};
 
 // The PIDs whose lengths are known, none where the token is bad.
@@ -44,13 +41,11 @@ fn none_known() -> [bool; 256]
 }
 
 // Whether the PID is one of pid.rs's table.
+#[tactic(auto, unfolding(crate::specs::Session::has_length))]
 fn has_length(p: u8) -> bool
     ensures { result ≡ has_length p }
 {
-    match pid::data_length(p) {
-        DataLength::Known(_) => true,
-        DataLength::Unknown => false,
-    }
+    pid::data_length(p).is_some()
 }
 
 // The PIDs of pid.rs's table.
@@ -112,15 +107,14 @@ pub fn known(s: &[u8]) -> KnownToken
     }
     let mut bits = [0u8; 32];
     match hex_text::read(s, &mut bits) {
-        Bytes::Count(n) => {
+        Ok(n) => {
             if n != 32 {
                 return bad_known();
             }
             let known = of_bits(bits);
             KnownToken { known, good: true }
         }
-        Bytes::Bad => bad_known(),
-        Bytes::Short => bad_known(),
+        Err(_) => bad_known(),
     }
 }
 
@@ -128,7 +122,7 @@ pub fn state(s: &[u8]) -> StateToken
     ensures { result ≡ state_of s.now }
 {
     match numeral::read(s, 2) {
-        Number::Value(n) => {
+        Some(n) => {
             if n == 0 {
                 return StateToken::Value(FeatureSupport::Unknown);
             }
@@ -137,7 +131,7 @@ pub fn state(s: &[u8]) -> StateToken
             }
             StateToken::Value(FeatureSupport::No)
         }
-        Number::Bad => StateToken::Bad,
+        None => StateToken::Bad,
     }
 }
 
@@ -146,7 +140,7 @@ pub fn kind(s: &[u8]) -> KindToken
     ensures { result ≡ kind_of s.now }
 {
     match numeral::read(s, 2) {
-        Number::Value(n) => {
+        Some(n) => {
             if n == 0 {
                 return KindToken::Value(Kind::Replied);
             }
@@ -155,7 +149,7 @@ pub fn kind(s: &[u8]) -> KindToken
             }
             KindToken::Value(Kind::Lost)
         }
-        Number::Bad => KindToken::Bad,
+        None => KindToken::Bad,
     }
 }
 
@@ -165,7 +159,7 @@ pub fn learnt(s: &[u8]) -> LearntToken
     if text::count(s, b',') != 1 {
         return LearntToken::Bad;
     }
-    let Byte::Value(ecu) = history_numbers::ecu(text::head(s, b',')) else {
+    let Some(ecu) = history_numbers::ecu(text::head(s, b',')) else {
         return LearntToken::Bad;
     };
     let FlagToken::Value(known) = history_numbers::flag(text::tail(s, b',')) else {

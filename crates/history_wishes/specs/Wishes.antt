@@ -1,15 +1,11 @@
 -- SETTINGS and PROFILE: fields parted by commas, in document 01's order. 44 is `,`. A bad field makes all bad.
-use Rattle.std.specs.Prelude.{Bool, List, ◌≡◌, refl, ℕ, eqb}
+use Rattle.std.specs.Prelude.{Bool, List, ◌≡◌, refl, ℕ, eqb, Option, Some, None}
 use Rattle.std.proofs.Common.{sym, eq-eqb, ne_eqb}
 use Rattle.base.specs.Choice.{pick}
 use Rattle.base.specs.Times.{times}
 use Rattle.text.specs.Cut.{head_of, tail_of}
 use Rattle.numeral.specs.Decimal.{number_of}
-use Rattle.numeral.specs.declared.Number.{Number}
-use Rattle.numeral.specs.declared.Number.TheVariants as number
 use Rattle.hex_text.specs.Pairs.{pid_of}
-use Rattle.hex_text.specs.declared.Byte.{Byte}
-use Rattle.hex_text.specs.declared.Byte.TheVariants as byte
 use Rattle.history_numbers.specs.Numbers.{byte_of, word32_of, flag_of, threshold_of}
 use Rattle.history_numbers.specs.declared.Word32.{Word32}
 use Rattle.history_numbers.specs.declared.Word32.TheVariants as word32
@@ -42,23 +38,23 @@ third s = tail_of 44 (second s)
 abbrev pub fourth : List ℕ → List ℕ
 fourth s = tail_of 44 (third s)
 
-unfoldable pub as_polling : Byte → Number → Word32 → Number → PollingFields
-as_polling (byte.Value m) (number.Value i) (word32.Value r) (number.Value p) = polling.Value m i r p
-as_polling byte.Bad i r p = polling.Bad
-as_polling (byte.Value m) number.Bad r p = polling.Bad
-as_polling (byte.Value m) (number.Value i) word32.Bad p = polling.Bad
-as_polling (byte.Value m) (number.Value i) (word32.Value r) number.Bad = polling.Bad
+unfoldable pub as_polling : Option ℕ → Option ℕ → Word32 → Option ℕ → PollingFields
+as_polling (Some m) (Some i) (word32.Value r) (Some p) = polling.Value m i r p
+as_polling None i r p = polling.Bad
+as_polling (Some m) None r p = polling.Bad
+as_polling (Some m) (Some i) word32.Bad p = polling.Bad
+as_polling (Some m) (Some i) (word32.Value r) None = polling.Bad
 
 -- MODE,INTERVAL,RATIO,PROMOTE
 unfoldable pub polling_of : List ℕ → PollingFields
 polling_of s = as_polling (byte_of (head_of 44 s)) (number_of word (head_of 44 (second s))) (word32_of (head_of 44 (third s))) (number_of word (head_of 44 (fourth s)))
 
-unfoldable pub as_keeping : Number → Number → FlagToken → Byte → KeepingFields
-as_keeping (number.Value d) (number.Value r) (flag.Value m) (byte.Value p) = keeping.Value d r m p
-as_keeping number.Bad r m p = keeping.Bad
-as_keeping (number.Value d) number.Bad m p = keeping.Bad
-as_keeping (number.Value d) (number.Value r) flag.Bad p = keeping.Bad
-as_keeping (number.Value d) (number.Value r) (flag.Value m) byte.Bad = keeping.Bad
+unfoldable pub as_keeping : Option ℕ → Option ℕ → FlagToken → Option ℕ → KeepingFields
+as_keeping (Some d) (Some r) (flag.Value m) (Some p) = keeping.Value d r m p
+as_keeping None r m p = keeping.Bad
+as_keeping (Some d) None m p = keeping.Bad
+as_keeping (Some d) (Some r) flag.Bad p = keeping.Bad
+as_keeping (Some d) (Some r) (flag.Value m) None = keeping.Bad
 
 -- DEMOTE,REMOVE,MULTI,MAXPIDS
 unfoldable pub keeping_of : List ℕ → KeepingFields
@@ -74,11 +70,11 @@ as_settings (polling.Value m i r p) keeping.Bad = settings.Bad
 unfoldable pub settings_of : List ℕ → SettingsToken
 settings_of s = pick (eqb (times 44 s) 7) (as_settings (polling_of s) (keeping_of (tail_of 44 (fourth s)))) settings.Bad
 
-unfoldable pub as_subject : Byte → Byte → Byte → SubjectFields
-as_subject (byte.Value k) (byte.Value p) (byte.Value r) = subject.Value k p r
-as_subject byte.Bad p r = subject.Bad
-as_subject (byte.Value k) byte.Bad r = subject.Bad
-as_subject (byte.Value k) (byte.Value p) byte.Bad = subject.Bad
+unfoldable pub as_subject : Option ℕ → Option ℕ → Option ℕ → SubjectFields
+as_subject (Some k) (Some p) (Some r) = subject.Value k p r
+as_subject None p r = subject.Bad
+as_subject (Some k) None r = subject.Bad
+as_subject (Some k) (Some p) None = subject.Bad
 
 -- KIND,PID,PRIORITY
 unfoldable pub subject_of : List ℕ → SubjectFields
@@ -99,57 +95,57 @@ profile_of s =
     profile.Bad
 
 -- The cases: a bad field, whatever the others are, or none.
-polling_2 : (m : Byte) (r : Word32) (p : Number) → as_polling m number.Bad r p ≡ polling.Bad
+polling_2 : (m : Option ℕ) (r : Word32) (p : Option ℕ) → as_polling m None r p ≡ polling.Bad
 unfolding as_polling
-polling_2 (byte.Value m) r p = refl
-polling_2 byte.Bad r p = refl
+polling_2 (Some m) r p = refl
+polling_2 None r p = refl
 
-polling_3 : (m : Byte) (i p : Number) → as_polling m i word32.Bad p ≡ polling.Bad
+polling_3 : (m : Option ℕ) (i p : Option ℕ) → as_polling m i word32.Bad p ≡ polling.Bad
 unfolding as_polling
-polling_3 (byte.Value m) (number.Value i) p = refl
-polling_3 (byte.Value m) number.Bad p = refl
-polling_3 byte.Bad i p = refl
+polling_3 (Some m) (Some i) p = refl
+polling_3 (Some m) None p = refl
+polling_3 None i p = refl
 
-polling_4 : (m : Byte) (i : Number) (r : Word32) → as_polling m i r number.Bad ≡ polling.Bad
+polling_4 : (m : Option ℕ) (i : Option ℕ) (r : Word32) → as_polling m i r None ≡ polling.Bad
 unfolding as_polling
-polling_4 (byte.Value m) (number.Value i) (word32.Value r) = refl
-polling_4 (byte.Value m) (number.Value i) word32.Bad = refl
-polling_4 (byte.Value m) number.Bad r = refl
-polling_4 byte.Bad i r = refl
+polling_4 (Some m) (Some i) (word32.Value r) = refl
+polling_4 (Some m) (Some i) word32.Bad = refl
+polling_4 (Some m) None r = refl
+polling_4 None i r = refl
 
-keeping_2 : (d : Number) (m : FlagToken) (p : Byte) → as_keeping d number.Bad m p ≡ keeping.Bad
+keeping_2 : (d : Option ℕ) (m : FlagToken) (p : Option ℕ) → as_keeping d None m p ≡ keeping.Bad
 unfolding as_keeping
-keeping_2 (number.Value d) m p = refl
-keeping_2 number.Bad m p = refl
+keeping_2 (Some d) m p = refl
+keeping_2 None m p = refl
 
-keeping_3 : (d r : Number) (p : Byte) → as_keeping d r flag.Bad p ≡ keeping.Bad
+keeping_3 : (d r : Option ℕ) (p : Option ℕ) → as_keeping d r flag.Bad p ≡ keeping.Bad
 unfolding as_keeping
-keeping_3 (number.Value d) (number.Value r) p = refl
-keeping_3 (number.Value d) number.Bad p = refl
-keeping_3 number.Bad r p = refl
+keeping_3 (Some d) (Some r) p = refl
+keeping_3 (Some d) None p = refl
+keeping_3 None r p = refl
 
-keeping_4 : (d r : Number) (m : FlagToken) → as_keeping d r m byte.Bad ≡ keeping.Bad
+keeping_4 : (d r : Option ℕ) (m : FlagToken) → as_keeping d r m None ≡ keeping.Bad
 unfolding as_keeping
-keeping_4 (number.Value d) (number.Value r) (flag.Value m) = refl
-keeping_4 (number.Value d) (number.Value r) flag.Bad = refl
-keeping_4 (number.Value d) number.Bad m = refl
-keeping_4 number.Bad r m = refl
+keeping_4 (Some d) (Some r) (flag.Value m) = refl
+keeping_4 (Some d) (Some r) flag.Bad = refl
+keeping_4 (Some d) None m = refl
+keeping_4 None r m = refl
 
 keeping_none : (f : PollingFields) → as_settings f keeping.Bad ≡ settings.Bad
 unfolding as_settings
 keeping_none (polling.Value m i r p) = refl
 keeping_none polling.Bad = refl
 
-subject_2 : (k r : Byte) → as_subject k byte.Bad r ≡ subject.Bad
+subject_2 : (k r : Option ℕ) → as_subject k None r ≡ subject.Bad
 unfolding as_subject
-subject_2 (byte.Value k) r = refl
-subject_2 byte.Bad r = refl
+subject_2 (Some k) r = refl
+subject_2 None r = refl
 
-subject_3 : (k p : Byte) → as_subject k p byte.Bad ≡ subject.Bad
+subject_3 : (k p : Option ℕ) → as_subject k p None ≡ subject.Bad
 unfolding as_subject
-subject_3 (byte.Value k) (byte.Value p) = refl
-subject_3 (byte.Value k) byte.Bad = refl
-subject_3 byte.Bad p = refl
+subject_3 (Some k) (Some p) = refl
+subject_3 (Some k) None = refl
+subject_3 None p = refl
 
 profile_2 : (u : SubjectFields) (e : FlagToken) → as_profile u threshold.Bad e ≡ profile.Bad
 unfolding as_profile
@@ -163,11 +159,11 @@ profile_3 (subject.Value k p r) threshold.Bad = refl
 profile_3 subject.Bad t = refl
 
 module _ (s : List ℕ) where
-  pub polling_bad_1 : byte_of (head_of 44 s) ≡ byte.Bad → polling.Bad ≡ polling_of s
+  pub polling_bad_1 : byte_of (head_of 44 s) ≡ None → polling.Bad ≡ polling_of s
   unfolding polling_of as_polling
   polling_bad_1 e = rw e
 
-  pub polling_bad_2 : number_of word (head_of 44 (second s)) ≡ number.Bad → polling.Bad ≡ polling_of s
+  pub polling_bad_2 : number_of word (head_of 44 (second s)) ≡ None → polling.Bad ≡ polling_of s
   unfolding polling_of
   polling_bad_2 e = rw e (sym (polling_2 _ _ _))
 
@@ -175,20 +171,20 @@ module _ (s : List ℕ) where
   unfolding polling_of
   polling_bad_3 e = rw e (sym (polling_3 _ _ _))
 
-  pub polling_bad_4 : number_of word (head_of 44 (fourth s)) ≡ number.Bad → polling.Bad ≡ polling_of s
+  pub polling_bad_4 : number_of word (head_of 44 (fourth s)) ≡ None → polling.Bad ≡ polling_of s
   unfolding polling_of
   polling_bad_4 e = rw e (sym (polling_4 _ _ _))
 
-  pub polling_good : (m i r p : ℕ) → byte_of (head_of 44 s) ≡ byte.Value m → number_of word (head_of 44 (second s)) ≡ number.Value i → word32_of (head_of 44 (third s)) ≡ word32.Value r → number_of word (head_of 44 (fourth s)) ≡ number.Value p
+  pub polling_good : (m i r p : ℕ) → byte_of (head_of 44 s) ≡ Some m → number_of word (head_of 44 (second s)) ≡ Some i → word32_of (head_of 44 (third s)) ≡ word32.Value r → number_of word (head_of 44 (fourth s)) ≡ Some p
       → polling.Value m i r p ≡ polling_of s
   unfolding polling_of as_polling
   polling_good m i r p a b c d = rw (a, b, c, d)
 
-  pub keeping_bad_1 : number_of word (head_of 44 s) ≡ number.Bad → keeping.Bad ≡ keeping_of s
+  pub keeping_bad_1 : number_of word (head_of 44 s) ≡ None → keeping.Bad ≡ keeping_of s
   unfolding keeping_of as_keeping
   keeping_bad_1 e = rw e
 
-  pub keeping_bad_2 : number_of word (head_of 44 (second s)) ≡ number.Bad → keeping.Bad ≡ keeping_of s
+  pub keeping_bad_2 : number_of word (head_of 44 (second s)) ≡ None → keeping.Bad ≡ keeping_of s
   unfolding keeping_of
   keeping_bad_2 e = rw e (sym (keeping_2 _ _ _))
 
@@ -196,11 +192,11 @@ module _ (s : List ℕ) where
   unfolding keeping_of
   keeping_bad_3 e = rw e (sym (keeping_3 _ _ _))
 
-  pub keeping_bad_4 : byte_of (head_of 44 (fourth s)) ≡ byte.Bad → keeping.Bad ≡ keeping_of s
+  pub keeping_bad_4 : byte_of (head_of 44 (fourth s)) ≡ None → keeping.Bad ≡ keeping_of s
   unfolding keeping_of
   keeping_bad_4 e = rw e (sym (keeping_4 _ _ _))
 
-  pub keeping_good : (d r : ℕ) (m : Bool) (p : ℕ) → number_of word (head_of 44 s) ≡ number.Value d → number_of word (head_of 44 (second s)) ≡ number.Value r → flag_of (head_of 44 (third s)) ≡ flag.Value m → byte_of (head_of 44 (fourth s)) ≡ byte.Value p
+  pub keeping_good : (d r : ℕ) (m : Bool) (p : ℕ) → number_of word (head_of 44 s) ≡ Some d → number_of word (head_of 44 (second s)) ≡ Some r → flag_of (head_of 44 (third s)) ≡ flag.Value m → byte_of (head_of 44 (fourth s)) ≡ Some p
       → keeping.Value d r m p ≡ keeping_of s
   unfolding keeping_of as_keeping
   keeping_good d r m p a b c e = rw (a, b, c, e)
@@ -223,19 +219,19 @@ module _ (s : List ℕ) where
     unfolding settings_of as_settings
     settings_good m i r p d v u n a b = rw (eq-eqb (times 44 s) 7 h, a, b)
 
-  pub subject_bad_1 : byte_of (head_of 44 s) ≡ byte.Bad → subject.Bad ≡ subject_of s
+  pub subject_bad_1 : byte_of (head_of 44 s) ≡ None → subject.Bad ≡ subject_of s
   unfolding subject_of as_subject
   subject_bad_1 e = rw e
 
-  pub subject_bad_2 : pid_of (head_of 44 (second s)) ≡ byte.Bad → subject.Bad ≡ subject_of s
+  pub subject_bad_2 : pid_of (head_of 44 (second s)) ≡ None → subject.Bad ≡ subject_of s
   unfolding subject_of
   subject_bad_2 e = rw e (sym (subject_2 _ _))
 
-  pub subject_bad_3 : byte_of (head_of 44 (third s)) ≡ byte.Bad → subject.Bad ≡ subject_of s
+  pub subject_bad_3 : byte_of (head_of 44 (third s)) ≡ None → subject.Bad ≡ subject_of s
   unfolding subject_of
   subject_bad_3 e = rw e (sym (subject_3 _ _))
 
-  pub subject_good : (k p r : ℕ) → byte_of (head_of 44 s) ≡ byte.Value k → pid_of (head_of 44 (second s)) ≡ byte.Value p → byte_of (head_of 44 (third s)) ≡ byte.Value r
+  pub subject_good : (k p r : ℕ) → byte_of (head_of 44 s) ≡ Some k → pid_of (head_of 44 (second s)) ≡ Some p → byte_of (head_of 44 (third s)) ≡ Some r
       → subject.Value k p r ≡ subject_of s
   unfolding subject_of as_subject
   subject_good k p r a b c = rw (a, b, c)

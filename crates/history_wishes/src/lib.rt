@@ -5,9 +5,7 @@ ghost use Rattle.std.specs.Prelude.{◌≡◌};
 ghost use Rattle.history_wishes.specs.Wishes.{fourth, polling_of, keeping_of, settings_of, subject_of, profile_of};
 
 use config::{Profile, Settings};
-use hex_text::Byte;
 use history_numbers::{FlagToken, ThresholdToken, Word32};
-use numeral::Number;
 
 #[derive(Clone, Copy)]
 pub enum SettingsToken {
@@ -58,16 +56,16 @@ fn polling(s: &[u8]) -> PollingFields
     let second = text::tail(s, b',');
     let third = text::tail(second, b',');
     let fourth = text::tail(third, b',');
-    let Byte::Value(mode) = history_numbers::byte(text::head(s, b',')) else {
+    let Some(mode) = history_numbers::byte(text::head(s, b',')) else {
         return PollingFields::Bad;
     };
-    let Number::Value(interval) = numeral::read(text::head(second, b','), u64::MAX) else {
+    let Some(interval) = numeral::read(text::head(second, b','), u64::MAX) else {
         return PollingFields::Bad;
     };
     let Word32::Value(ratio) = history_numbers::number32(text::head(third, b',')) else {
         return PollingFields::Bad;
     };
-    let Number::Value(promotion) = numeral::read(text::head(fourth, b','), u64::MAX) else {
+    let Some(promotion) = numeral::read(text::head(fourth, b','), u64::MAX) else {
         return PollingFields::Bad;
     };
     PollingFields::Value {
@@ -84,16 +82,16 @@ fn keeping(s: &[u8]) -> KeepingFields
     let second = text::tail(s, b',');
     let third = text::tail(second, b',');
     let fourth = text::tail(third, b',');
-    let Number::Value(demotion) = numeral::read(text::head(s, b','), u64::MAX) else {
+    let Some(demotion) = numeral::read(text::head(s, b','), u64::MAX) else {
         return KeepingFields::Bad;
     };
-    let Number::Value(removal) = numeral::read(text::head(second, b','), u64::MAX) else {
+    let Some(removal) = numeral::read(text::head(second, b','), u64::MAX) else {
         return KeepingFields::Bad;
     };
     let FlagToken::Value(multi) = history_numbers::flag(text::head(third, b',')) else {
         return KeepingFields::Bad;
     };
-    let Byte::Value(maxpids) = history_numbers::byte(text::head(fourth, b',')) else {
+    let Some(maxpids) = history_numbers::byte(text::head(fourth, b',')) else {
         return KeepingFields::Bad;
     };
     KeepingFields::Value {
@@ -154,13 +152,13 @@ fn subject(s: &[u8]) -> SubjectFields
 {
     let second = text::tail(s, b',');
     let third = text::tail(second, b',');
-    let Byte::Value(kind) = history_numbers::byte(text::head(s, b',')) else {
+    let Some(kind) = history_numbers::byte(text::head(s, b',')) else {
         return SubjectFields::Bad;
     };
-    let Byte::Value(pid) = hex_text::pid(text::head(second, b',')) else {
+    let Some(pid) = hex_text::pid(text::head(second, b',')) else {
         return SubjectFields::Bad;
     };
-    let Byte::Value(priority) = history_numbers::byte(text::head(third, b',')) else {
+    let Some(priority) = history_numbers::byte(text::head(third, b',')) else {
         return SubjectFields::Bad;
     };
     SubjectFields::Value {

@@ -5,37 +5,31 @@ ghost use Rattle.std.specs.Prelude.{◌≡◌, ◌≤◌, length, drop};
 ghost use Rattle.numeral.specs.Decimal.{number_of, decimal_text};
 ghost use Rattle.text.specs.Put.{put_of, put_end};
 
-#[derive(Clone, Copy)]
-pub enum Number {
-    Value(u64),
-    Bad,
-}
-
 // The number that s is, where that is at most max.
-pub fn read(s: &[u8], max: u64) -> Number
+pub fn read(s: &[u8], max: u64) -> Option<u64>
     ensures { result ≡ number_of max s.now }
 {
     if s.len() == 0 {
-        return Number::Bad;
+        return None;
     }
     let mut value: u64 = 0;
     let mut i = 0;
     while i < s.len() {
         if !ascii::is_between(b'0', s[i], b'9') {
-            return Number::Bad;
+            return None;
         }
         let digit = wide(s[i] - b'0');
         // what is past max stays past it
         if max < digit {
-            return Number::Bad;
+            return None;
         }
         if (max - digit) / 10 < value {
-            return Number::Bad;
+            return None;
         }
         value = value * 10 + digit;
         i += 1;
     }
-    Number::Value(value)
+    Some(value)
 }
 
 fn wide(b: u8) -> u64

@@ -1,5 +1,5 @@
 -- The proof of the claims of `Cut`.
-use Rattle.std.specs.Prelude.{true, false, List, [], ◌∷◌, ◌++◌, map, ◌≡◌, refl, ℕ, zero, suc, ◌+◌, ◌-◌, ◌<◌, ◌≤◌, leb, take}
+use Rattle.std.specs.Prelude.{true, false, None, Ok, List, [], ◌∷◌, ◌++◌, map, ◌≡◌, refl, ℕ, zero, suc, ◌+◌, ◌-◌, ◌<◌, ◌≤◌, leb, take}
 use Rattle.std.proofs.Common.{append_assoc, sym, ◌∙◌, take-append-drop, length-take-le}
 use Rattle.std.proofs.Math.Path.{ap}
 use native.Mathlib.Omega.{arith}
@@ -8,10 +8,9 @@ use Rattle.std.proofs.Math.Seq.{take-take, take-nil, drop-drop}
 use borrow.Author.Tests.{leb-true, leb-false, le-leb, lt-leb, le-ltb}
 use Rattle.base.specs.Both.{never}
 use Rattle.base.specs.Choice.{pick, cases}
-use Rattle.capture_read.specs.declared.Stop.TheVariants.{Nowhere}
+use Rattle.capture_read.specs.declared.Record.{Record}
 use Rattle.capture_read.specs.Reading.{field, header_size, seven_bytes, good_header, record_count, data_length, type_in, length_in, size_in, whole, stops, records_from, rest_of, records_of, left_over, row_of, rows_of, end_of, stop_at, found_of, listed_of, Told}
 use Rattle.capture_read.specs.Cases.{read_listed}
-use Rattle.capture_read.specs.declared.Outcome.TheVariants.{Listed}
 use Rattle.capture_read.specs.Laws.{field_append, whole_has, has_whole, size_some, field_take, records_step, records_stop, rest_step, rest_stop, by_records}
 use Rattle.capture_read.specs.Append.{whole_append, rest_short, rest_partial, rest_last}
 use Rattle.streams.specs.Stream.{joined}
@@ -366,7 +365,7 @@ module _ (bs : List ℕ) (k : ℕ) (past : header_size ≤ k) (there : k ≤ len
   unfolding left_over body
   cut_stops = rw (behind_header, same_test) (stops_cut body reach reach_there)
 
-  cut_stop : stop_at (end_of (take k bs)) (left_over (take k bs)) ≡ pick (leb (end_of bs + seven_bytes) k) (stop_at (end_of bs) (left_over bs)) Nowhere
+  cut_stop : stop_at (end_of (take k bs)) (left_over (take k bs)) ≡ pick (leb (end_of bs + seven_bytes) k) (stop_at (end_of bs) (left_over bs)) None
   unfolding stop_at
   cut_stop = cases _ (leb (end_of bs + seven_bytes) k)
       (λ e. let t = leb-true (end_of bs + seven_bytes) k e in rw (cut_stops, cut_same_end (omega arith), e))
@@ -402,7 +401,7 @@ module _ (bs : List ℕ) (k : ℕ) (past : header_size ≤ k) (there : k ≤ len
       ≡ record {
         records = length (kept k (records_of bs));
         bytes = bytes_in (kept k (records_of bs));
-        stop = pick (leb (end_of bs + seven_bytes) k) (stop_at (end_of bs) (left_over bs)) Nowhere;
+        stop = pick (leb (end_of bs + seven_bytes) k) (stop_at (end_of bs) (left_over bs)) None;
         left = k - (header_size + bytes_in (kept k (records_of bs)));
       }
   unfolding found_of
@@ -413,8 +412,8 @@ module _ (bs : List ℕ) (k : ℕ) (past : header_size ≤ k) (there : k ≤ len
   unfolding rows_of
   cut_rows = ap (map row_of) cut_records
 
-  cut_answered : good_header bs ≡ true → (list : List (List ℕ)) → length (up_to k (records_of bs)) ≤ length list
-      → Told list (take k bs) (Listed (listed_of (take k bs))) (map row_of (up_to k (records_of bs)) ++ drop (length (up_to k (records_of bs))) list)
+  cut_answered : good_header bs ≡ true → (list : List Record) → length (up_to k (records_of bs)) ≤ length list
+      → Told list (take k bs) (Ok (listed_of (take k bs))) (map row_of (up_to k (records_of bs)) ++ drop (length (up_to k (records_of bs))) list)
   cut_answered e list h =
       let n = length-map (up_to k (records_of bs)) row_of in
       rw (cut_rows, n) at (read_listed list (take k bs) (cut_header ∙ e) (rw (cut_rows, n) h))

@@ -1,5 +1,5 @@
 -- The proof of the claim of `Trip`.
-use Rattle.std.specs.Prelude.{true, false, List, [], ◌∷◌, ◌++◌, map, ◌≡◌, ℕ, suc, ◌+◌, ◌-◌, ◌%◌, ◌^◌, ◌≤◌, ltb, take, drop}
+use Rattle.std.specs.Prelude.{true, false, List, [], ◌∷◌, ◌++◌, None, Ok, Err, map, ◌≡◌, ℕ, suc, ◌+◌, ◌-◌, ◌%◌, ◌^◌, ◌≤◌, ltb, take, drop}
 use Rattle.std.proofs.Common.{append_assoc, append-nil, sym, ◌∙◌, drop_at}
 use Rattle.std.proofs.Math.Path.{refl, ap}
 use native.Mathlib.Omega.{arith}
@@ -11,14 +11,14 @@ use Rattle.base.specs.Choice.{cases}
 use Rattle.base.specs.Write.{over, over_length, take_over}
 use Rattle.text.specs.Cut.{same_of}
 use Rattle.capture.specs.declared.Recorder.{Recorder}
-use Rattle.capture.specs.declared.Recorded.TheVariants.{Written, Overflow, Refused}
+use Rattle.capture.specs.declared.Recorded.TheVariants.{Written, Overflow}
+use Rattle.capture.specs.declared.RecordError.TheVariants.{UnknownKind, TooLong}
 use Rattle.capture.specs.declared.Appended.{Appended}
 use Rattle.capture.specs.Format.{le, record_bytes, fits_in, marked, grown, appended, recorded_of, buffer_of, magic, firmware_text, count_bytes, header_of, empty_recorder, Room}
 use Rattle.capture.specs.Laws.{le_length, fits_room}
-use Rattle.capture_read.specs.declared.Stop.TheVariants.{Nowhere}
+use Rattle.capture_read.specs.declared.Record.{Record}
 use Rattle.capture_read.specs.Reading.{unle, field, header_size, seven_bytes, good_header, record_count, data_length, time_in, type_in, length_in, data_in, size_in, whole, stops, records_from, rest_of, records_of, left_over, row_in, row_of, rows_of, end_of, stop_at, found_of, listed_of, Told}
 use Rattle.capture_read.specs.Cases.{read_listed}
-use Rattle.capture_read.specs.declared.Outcome.TheVariants.{Listed}
 use Rattle.capture_read.specs.Laws.{has_whole, records_step, records_stop, rest_step, rest_stop}
 use Rattle.capture_read.specs.Append.{type_append, size_append}
 use Rattle.streams.specs.Stream.{joined}
@@ -113,7 +113,7 @@ record Left (r : Recorder) (buf : List ℕ) (c : RecordCall) : Type 0 where
 
 module _ (r : Recorder) (buf : List ℕ) (c : RecordCall) where
   module _ (a : ltb 3 c.kind ≡ true) where
-    unknown_result : recorded_of r buf c.kind c.bytes ≡ appended r (Refused 2)
+    unknown_result : recorded_of r buf c.kind c.bytes ≡ appended r (Err UnknownKind)
     unfolding recorded_of
     unknown_result = rw a
 
@@ -123,7 +123,7 @@ module _ (r : Recorder) (buf : List ℕ) (c : RecordCall) where
 
   module _ (a : ltb 3 c.kind ≡ false) where
     module _ (b : ltb 65535 (length c.bytes) ≡ true) where
-      long_result : recorded_of r buf c.kind c.bytes ≡ appended r (Refused 5)
+      long_result : recorded_of r buf c.kind c.bytes ≡ appended r (Err TooLong)
       unfolding recorded_of
       long_result = rw (a, b)
 
@@ -133,7 +133,7 @@ module _ (r : Recorder) (buf : List ℕ) (c : RecordCall) where
 
     module _ (b : ltb 65535 (length c.bytes) ≡ false) where
       module _ (f : fits_in r (length buf) (length c.bytes) ≡ true) where
-        fit_result : recorded_of r buf c.kind c.bytes ≡ appended (grown r (length c.bytes)) Written
+        fit_result : recorded_of r buf c.kind c.bytes ≡ appended (grown r (length c.bytes)) (Ok Written)
         unfolding recorded_of
         fit_result = rw (a, b, f)
 
@@ -142,7 +142,7 @@ module _ (r : Recorder) (buf : List ℕ) (c : RecordCall) where
         fit_buffer = rw (a, b, f)
 
       module _ (f : fits_in r (length buf) (length c.bytes) ≡ false) where
-        full_result : recorded_of r buf c.kind c.bytes ≡ appended (marked r) Overflow
+        full_result : recorded_of r buf c.kind c.bytes ≡ appended (marked r) (Ok Overflow)
         unfolding recorded_of
         full_result = rw (a, b, f)
 
@@ -156,9 +156,9 @@ module _ (r : Recorder) (buf : List ℕ) (c : RecordCall) where
   put : is_written (answer_of r buf c) ≡ true → Put r buf c
   unfolding is_written
   put e = cases _ (ltb 3 c.kind)
-      (λ a. never _ e (answer_by (appended r (Refused 2)) (unknown_result a)))
+      (λ a. never _ e (answer_by (appended r (Err UnknownKind)) (unknown_result a)))
       (λ a. cases _ (ltb 65535 (length c.bytes))
-      (λ b. never _ e (answer_by (appended r (Refused 5)) (long_result a b)))
+      (λ b. never _ e (answer_by (appended r (Err TooLong)) (long_result a b)))
       (λ b. cases _ (fits_in r (length buf) (length c.bytes))
       (λ f.
       record {
@@ -168,7 +168,7 @@ module _ (r : Recorder) (buf : List ℕ) (c : RecordCall) where
         recorder_is = ap (λ (x : Appended). x.recorder) (fit_result a b f);
         buffer_is = fit_buffer a b f;
       })
-      (λ f. never _ e (answer_by (appended (marked r) Overflow) (full_result a b f)))))
+      (λ f. never _ e (answer_by (appended (marked r) (Ok Overflow)) (full_result a b f)))))
 
   left_by : (x : Appended) → recorded_of r buf c.kind c.bytes ≡ x → x.recorder.fill ≡ r.fill → x.recorder.records ≡ r.records
       → buffer_then r buf c ≡ buf → Left r buf c
@@ -182,12 +182,12 @@ module _ (r : Recorder) (buf : List ℕ) (c : RecordCall) where
   left : is_written (answer_of r buf c) ≡ false → Left r buf c
   unfolding is_written
   left e = cases _ (ltb 3 c.kind)
-      (λ a. left_by (appended r (Refused 2)) (unknown_result a) refl refl (unknown_buffer a))
+      (λ a. left_by (appended r (Err UnknownKind)) (unknown_result a) refl refl (unknown_buffer a))
       (λ a. cases _ (ltb 65535 (length c.bytes))
-      (λ b. left_by (appended r (Refused 5)) (long_result a b) refl refl (long_buffer a b))
+      (λ b. left_by (appended r (Err TooLong)) (long_result a b) refl refl (long_buffer a b))
       (λ b. cases _ (fits_in r (length buf) (length c.bytes))
-      (λ f. never _ (answer_by (appended (grown r (length c.bytes)) Written) (fit_result a b f)) e)
-      (λ f. left_by (appended (marked r) Overflow) (full_result a b f) refl refl (full_buffer a b f))))
+      (λ f. never _ (answer_by (appended (grown r (length c.bytes)) (Ok Written)) (fit_result a b f)) e)
+      (λ f. left_by (appended (marked r) (Ok Overflow)) (full_result a b f) refl refl (full_buffer a b f))))
 
   written_here : (cs : List RecordCall) → is_written (answer_of r buf c) ≡ true
       → written_in r buf (c ∷ cs) ≡ c ∷ written_in (recorder_then r buf c) (buffer_then r buf c) cs
@@ -305,7 +305,7 @@ back_more c cs known short b =
     record {
       records = λ p. text_first c short known behind p ∙ ap (λ (rs : List (ℕ × List ℕ)). (p, text_of c) ∷ rs) (b.records (p + n));
       rest = text_rest c short known behind ∙ b.rest;
-      rows = λ p. rw (text_row c short p, text_length c) (ap (λ (rs : List (List ℕ)). row_for p c ∷ rs) (b.rows (p + (seven_bytes + length c.bytes))));
+      rows = λ p. rw (text_row c short p, text_length c) (ap (λ (rs : List Record). row_for p c ∷ rs) (b.rows (p + (seven_bytes + length c.bytes))));
       contents = λ p. rw (text_data c short) (ap (λ (ds : List (List ℕ)). c.bytes ∷ ds) (b.contents (p + n)));
       number = λ p. ap suc (b.number (p + (seven_bytes + length c.bytes)));
     }
@@ -412,7 +412,7 @@ module _ (r : Recorder) (address : List ℕ) (port : ℕ) (text : List ℕ) (fou
     capture_said = header_fill r address port text (take r.fill buf) f.small
 
     capture_listed : listed_of capture
-        ≡ record { count = r.records; length = r.fill; found = record { records = r.records; bytes = r.fill; stop = Nowhere; left = 0 } }
+        ≡ record { count = r.records; length = r.fill; found = record { records = r.records; bytes = r.fill; stop = None; left = 0 } }
     unfolding listed_of found_of stop_at
     capture_listed = rw (capture_count, capture_said, capture_number, capture_bytes, capture_stops, capture_left, counted)
 
@@ -420,7 +420,7 @@ module _ (r : Recorder) (address : List ℕ) (port : ℕ) (text : List ℕ) (fou
     unfolding capture
     capture_good = header_good (take r.fill buf)
 
-    capture_answered : (list : List (List ℕ)) → length ws ≤ length list → Told list capture (Listed (listed_of capture)) (rows_at header_size ws ++ drop (length ws) list)
+    capture_answered : (list : List Record) → length ws ≤ length list → Told list capture (Ok (listed_of capture)) (rows_at header_size ws ++ drop (length ws) list)
     capture_answered list h = rw (capture_rows, b.number header_size) at (read_listed list capture capture_good (rw capture_number h))
 
     read_back : ReadBack r ws (capture_with r buf address port text)

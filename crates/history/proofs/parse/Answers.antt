@@ -27,21 +27,21 @@ slice_bounds-rest-count c = within (goal.at.slice_bounds-rest-count c).After-unt
 pub slice_bounds-rest-start : goal.slice_bounds-rest-start
 slice_bounds-rest-start c = within (goal.at.slice_bounds-rest-start c).After-until-end
 
-pub returns-in-Value : goal.returns-in-Value
-returns-in-Value c =
+pub returns-in-Some : goal.returns-in-Some
+returns-in-Some c =
     let s = c.args in
     let e = rw c.first.ensures at c.read.ensures in
-    let l = line_timed (length s.bytes.now) s.line.now s.bytes.now _ c.until-end.ensures _ refl _ (behind-is s.line.now c.until-end.result) _ (sym e ∙ c.in-Value.is) in
+    let l = line_timed (length s.bytes.now) s.line.now s.bytes.now _ c.until-end.ensures _ refl _ (behind-is s.line.now c.until-end.result) _ (sym e ∙ c.in-Some.is) in
     record {
       value = rw (c.timed.ensures.value, c.of.ensures, c.behind.ensures) l.0;
       bytes_after = rw (c.timed.ensures.bytes_after, c.of.ensures, c.behind.ensures) l.1;
     }
 
-pub returns-in-Bad : goal.returns-in-Bad
-returns-in-Bad c =
+pub returns-in-None : goal.returns-in-None
+returns-in-None c =
     let s = c.args in
     let e = rw c.first.ensures at c.read.ensures in
-    let l = line_untimed (length s.bytes.now) s.line.now s.bytes.now _ c.until-end.ensures _ refl _ (behind-is s.line.now c.until-end.result) (sym e ∙ c.in-Bad.is) in
+    let l = line_untimed (length s.bytes.now) s.line.now s.bytes.now _ c.until-end.ensures _ refl _ (behind-is s.line.now c.until-end.result) (sym e ∙ c.in-None.is) in
     record {
       value = rw c.untimed.ensures l.0;
       bytes_after = l.1;

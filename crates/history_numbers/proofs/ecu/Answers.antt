@@ -11,13 +11,13 @@ returns-then-is_none c = rw (sym c.is_none.ensures ∙ c.if-is_none.true)
 pub returns-then-n-eq0 : goal.returns-then-n-eq0
 unfolding ecu_of
 returns-then-n-eq0 c =
-    rw (sym c.is_none.ensures ∙ c.if-is_none.false, sym c.byte.ensures ∙ c.in-Value.is, eq-eqb _ _ c.if-n-eq0.true)
+    rw (sym c.is_none.ensures ∙ c.if-is_none.false, sym c.byte.ensures ∙ c.in-Some.is, eq-eqb _ _ c.if-n-eq0.true)
 
 pub returns-else-n-eq0 : goal.returns-else-n-eq0
 unfolding ecu_of
 returns-else-n-eq0 c =
-    rw (sym c.is_none.ensures ∙ c.if-is_none.false, sym c.byte.ensures ∙ c.in-Value.is, ne_eqb _ _ c.if-n-eq0.false)
+    rw (sym c.is_none.ensures ∙ c.if-is_none.false, sym c.byte.ensures ∙ c.in-Some.is, ne_eqb _ _ c.if-n-eq0.false)
 
-pub returns-in-Bad : goal.returns-in-Bad
+pub returns-in-None : goal.returns-in-None
 unfolding ecu_of
-returns-in-Bad c = rw (sym c.is_none.ensures ∙ c.if-is_none.false, sym c.byte.ensures ∙ c.in-Bad.is)
+returns-in-None c = rw (sym c.is_none.ensures ∙ c.if-is_none.false, sym c.byte.ensures ∙ c.in-None.is)

@@ -3,10 +3,10 @@ use mathlib.Core.Path.{sym, ◌∙◌}
 use Rattle.history_numbers.specs.Numbers.{flag_of}
 use Rattle.history_numbers.proofs.flag.Goals as goal
 
-pub returns-in-Value : goal.returns-in-Value
+pub returns-in-Some : goal.returns-in-Some
 unfolding flag_of
-returns-in-Value c = rw (sym c.read.ensures ∙ c.in-Value.is)
+returns-in-Some c = rw (sym c.read.ensures ∙ c.in-Some.is)
 
-pub returns-in-Bad : goal.returns-in-Bad
+pub returns-in-None : goal.returns-in-None
 unfolding flag_of
-returns-in-Bad c = rw (sym c.read.ensures ∙ c.in-Bad.is)
+returns-in-None c = rw (sym c.read.ensures ∙ c.in-None.is)

@@ -7,10 +7,10 @@ pub returns-then-is_none : goal.returns-then-is_none
 unfolding wait_of
 returns-then-is_none c = rw (sym c.is_none.ensures ∙ c.if-is_none.true)
 
-pub returns-in-Value : goal.returns-in-Value
+pub returns-in-Some : goal.returns-in-Some
 unfolding wait_of
-returns-in-Value c = rw (sym c.is_none.ensures ∙ c.if-is_none.false, sym c.read.ensures ∙ c.in-Value.is)
+returns-in-Some c = rw (sym c.is_none.ensures ∙ c.if-is_none.false, sym c.read.ensures ∙ c.in-Some.is)
 
-pub returns-in-Bad : goal.returns-in-Bad
+pub returns-in-None : goal.returns-in-None
 unfolding wait_of
-returns-in-Bad c = rw (sym c.is_none.ensures ∙ c.if-is_none.false, sym c.read.ensures ∙ c.in-Bad.is)
+returns-in-None c = rw (sym c.is_none.ensures ∙ c.if-is_none.false, sym c.read.ensures ∙ c.in-None.is)

@@ -32,4 +32,4 @@ pub returns : goal.returns
 returns c =
     let s = c.args.s.now in
     let e = c.is_lines.ensures ∙ ap is_lines (behind s) in
-    reply_good _ c.if-s-lt2.false _ _ (sym c.pid.ensures ∙ c.in-Value.is) (sym e ∙ not-false _ c.if-not-is_lines.false-raw) (c.lines-token.ensures ∙ ap lines_of (behind s))
+    reply_good _ c.if-s-lt2.false _ _ (sym c.pid.ensures ∙ c.in-Some.is) (sym e ∙ not-false _ c.if-not-is_lines.false-raw) (c.lines-token.ensures ∙ ap lines_of (behind s))

@@ -6,18 +6,18 @@ use Rattle.history_session.proofs.kind.Goals as goal
 
 pub returns-then-n-eq0 : goal.returns-then-n-eq0
 unfolding kind_of
-returns-then-n-eq0 c = rw (sym c.read.ensures ∙ c.in-Value.is, eq-eqb _ _ c.if-n-eq0.true)
+returns-then-n-eq0 c = rw (sym c.read.ensures ∙ c.in-Some.is, eq-eqb _ _ c.if-n-eq0.true)
 
 pub returns-then-n-eq1 : goal.returns-then-n-eq1
 unfolding kind_of
 returns-then-n-eq1 c =
-    rw (sym c.read.ensures ∙ c.in-Value.is, ne_eqb _ _ c.if-n-eq0.false, eq-eqb _ _ c.if-n-eq1.true)
+    rw (sym c.read.ensures ∙ c.in-Some.is, ne_eqb _ _ c.if-n-eq0.false, eq-eqb _ _ c.if-n-eq1.true)
 
 pub returns-else-n-eq1 : goal.returns-else-n-eq1
 unfolding kind_of
 returns-else-n-eq1 c =
-    rw (sym c.read.ensures ∙ c.in-Value.is, ne_eqb _ _ c.if-n-eq0.false, ne_eqb _ _ c.if-n-eq1.false)
+    rw (sym c.read.ensures ∙ c.in-Some.is, ne_eqb _ _ c.if-n-eq0.false, ne_eqb _ _ c.if-n-eq1.false)
 
-pub returns-in-Bad : goal.returns-in-Bad
+pub returns-in-None : goal.returns-in-None
 unfolding kind_of
-returns-in-Bad c = rw (sym c.read.ensures ∙ c.in-Bad.is)
+returns-in-None c = rw (sym c.read.ensures ∙ c.in-None.is)

@@ -25,4 +25,4 @@ returns-in_default-flag c =
 
 pub returns : goal.returns
 returns c =
-    learnt_good _ (sym c.count.ensures ∙ c.if-count-ne1.false) _ _ (sym (ecu-is (goal.at.returns c).After-ecu) ∙ c.in-Value.is) (sym (flag_is (goal.at.returns c).After-flag) ∙ c.in-Value-flag.is)
+    learnt_good _ (sym c.count.ensures ∙ c.if-count-ne1.false) _ _ (sym (ecu-is (goal.at.returns c).After-ecu) ∙ c.in-Some.is) (sym (flag_is (goal.at.returns c).After-flag) ∙ c.in-Value.is)

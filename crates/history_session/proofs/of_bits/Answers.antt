@@ -3,7 +3,6 @@ use mathlib.Core.Path.{◌≡◌, sym, ap, ◌∙◌}
 use lib.ListN.{length, length-set}
 use lib.Seq.{take_all}
 use Rattle.history_session.specs.Session.{bit_in, table_of, none_length, table_none, table_next}
-use Prim.Native.Nat.{◌-◌}
 use native.Mathlib.Omega.{arith}
 use Rattle.history_session.proofs.of_bits.Goals as goal
 

@@ -37,4 +37,4 @@ returns-in_default-byte c =
 
 pub returns : goal.returns
 returns c =
-    keeping_good _ _ _ _ _ (sym (first-is (goal.at.returns c).After-read) ∙ c.in-Value.is) (sym (second_is (goal.at.returns c).After-read-2) ∙ c.in-Value-read.is) (sym (third-is (goal.at.returns c).After-flag) ∙ c.in-Value-flag.is) (sym (fourth-is (goal.at.returns c).After-byte) ∙ c.in-Value-byte.is)
+    keeping_good _ _ _ _ _ (sym (first-is (goal.at.returns c).After-read) ∙ c.in-Some.is) (sym (second_is (goal.at.returns c).After-read-2) ∙ c.in-Some-read.is) (sym (third-is (goal.at.returns c).After-flag) ∙ c.in-Value.is) (sym (fourth-is (goal.at.returns c).After-byte) ∙ c.in-Some-byte.is)

@@ -37,4 +37,4 @@ returns-in_default-read-2 c =
 
 pub returns : goal.returns
 returns c =
-    polling_good _ _ _ _ _ (sym (first-is (goal.at.returns c).After-byte) ∙ c.in-Value.is) (sym (second_is (goal.at.returns c).After-read) ∙ c.in-Value-read.is) (sym (third-is (goal.at.returns c).After-number32) ∙ c.in-Value-number32.is) (sym (fourth-is (goal.at.returns c).After-read-2) ∙ c.in-Value-read-2.is)
+    polling_good _ _ _ _ _ (sym (first-is (goal.at.returns c).After-byte) ∙ c.in-Some.is) (sym (second_is (goal.at.returns c).After-read) ∙ c.in-Some-read.is) (sym (third-is (goal.at.returns c).After-number32) ∙ c.in-Value.is) (sym (fourth-is (goal.at.returns c).After-read-2) ∙ c.in-Some-read-2.is)

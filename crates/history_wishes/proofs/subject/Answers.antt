@@ -30,4 +30,4 @@ returns-in_default-byte c =
 
 pub returns : goal.returns
 returns c =
-    subject_good _ _ _ _ (sym (first-is (goal.at.returns c).After-byte) ∙ c.in-Value.is) (sym (second_is (goal.at.returns c).After-pid) ∙ c.in-Value-pid.is) (sym (third-is (goal.at.returns c).After-byte-2) ∙ c.in-Value-byte.is)
+    subject_good _ _ _ _ (sym (first-is (goal.at.returns c).After-byte) ∙ c.in-Some.is) (sym (second_is (goal.at.returns c).After-pid) ∙ c.in-Some-pid.is) (sym (third-is (goal.at.returns c).After-byte-2) ∙ c.in-Some-byte.is)

@@ -1,4 +1,5 @@
 -- `history_calls::plain::ask` meets its contract.
+use Rattle.std.specs.Prelude.{Some}
 use Rattle.history_numbers.specs.Numbers.{word32_of}
 use Rattle.numeral.specs.Decimal.{number_of}
 use Rattle.history_items.specs.Items.{items_of}
@@ -6,11 +7,10 @@ use Rattle.history_items.specs.Tokens.{first_of, rest_of, none_of}
 use mathlib.Core.Bool.{true}
 use lib.ListN.{length}
 use Rattle.hex_text.specs.Pairs.{command_of}
-use Rattle.numeral.specs.declared.Number.TheVariants as number
 use Rattle.history_numbers.specs.declared.Word32.TheVariants as word32
 use mathlib.Core.Path.{◌≡◌, sym, ◌∙◌}
 use borrow.Author.Tests.{not-true}
-use Rattle.history_calls.specs.Plain.{ask_bytes, ask_bad_1, ask_bad_2, ask_bad_3, ask_bad_4, ask_bad_5, ask_command, ask_good}
+use Rattle.history_calls.specs.Plain.{ask_bytes, ask_bad_1, ask_bad_2, ask_bad_3, ask_bad_4, ask_command, ask_good}
 use Rattle.history_calls.proofs.plain.ask.Goals as goal
 use Rattle.history_calls.proofs.plain.ask.Goals.{After-command, After-is_end, After-number32, After-read}
 
@@ -31,10 +31,10 @@ last-is c = rw (c.behind.ensures, c.behind-third.ensures, c.behind-second.ensure
 client-good : (c : After-command) → word32_of (first_of (items_of 32 c.args.rest.now)) ≡ word32.Value c.in-Value.client
 client-good c = let e = rw c.first.ensures at c.number32.ensures in sym e ∙ c.in-Value.is
 
-area-good : (c : After-command) → number_of 4096 (first_of (rest_of (rest_of (items_of 32 c.args.rest.now)))) ≡ number.Value c.in-Value-read.area
+area-good : (c : After-command) → number_of 4096 (first_of (rest_of (rest_of (items_of 32 c.args.rest.now)))) ≡ Some c.in-Some.area
 area-good c =
     let e = rw (c.first-2.ensures, c.behind-third.ensures, c.behind-second.ensures) at c.read.ensures in
-    sym e ∙ c.in-Value-read.is
+    sym e ∙ c.in-Some.is
 
 last-good : (c : After-command) → none_of (rest_of (rest_of (rest_of (items_of 32 c.args.rest.now)))) ≡ true
 last-good c =
@@ -64,23 +64,16 @@ pub returns-then-not-is_end : goal.returns-then-not-is_end
 returns-then-not-is_end c =
     named_value_bytes_after (ask_bad_3 _ _ _ _ (sym (last-is (goal.at.returns-then-not-is_end c).After-is_end) ∙ not-true c.is_end.result c.if-not-is_end.true-raw))
 
-pub returns-in-Count : goal.returns-in-Count
-returns-in-Count c =
+pub returns-in-Ok : goal.returns-in-Ok
+returns-in-Ok c =
     record {
-      value = ask_good _ _ _ _ _ _ (client-good (goal.at.returns-in-Count c).After-command) (area-good (goal.at.returns-in-Count c).After-command) (last-good (goal.at.returns-in-Count c).After-command) (sym (said (goal.at.returns-in-Count c).After-command) ∙ c.in-Count.is);
-      bytes_after = left (goal.at.returns-in-Count c).After-command;
+      value = ask_good _ _ _ _ _ _ (client-good (goal.at.returns-in-Ok c).After-command) (area-good (goal.at.returns-in-Ok c).After-command) (last-good (goal.at.returns-in-Ok c).After-command) (sym (said (goal.at.returns-in-Ok c).After-command) ∙ c.in-Ok.is);
+      bytes_after = left (goal.at.returns-in-Ok c).After-command;
     }
 
-pub returns-in-Bad : goal.returns-in-Bad
-returns-in-Bad c =
+pub returns-in-Err : goal.returns-in-Err
+returns-in-Err c =
     record {
-      value = ask_bad_4 _ _ _ (sym (said (goal.at.returns-in-Bad c).After-command) ∙ c.in-Bad.is);
-      bytes_after = left (goal.at.returns-in-Bad c).After-command;
-    }
-
-pub returns-in-Short : goal.returns-in-Short
-returns-in-Short c =
-    record {
-      value = ask_bad_5 _ _ _ (sym (said (goal.at.returns-in-Short c).After-command) ∙ c.in-Short.is);
-      bytes_after = left (goal.at.returns-in-Short c).After-command;
+      value = ask_bad_4 _ _ _ _ (sym (said (goal.at.returns-in-Err c).After-command) ∙ c.in-Err.is);
+      bytes_after = left (goal.at.returns-in-Err c).After-command;
     }

@@ -32,4 +32,4 @@ returns-then-not-is_end c =
 
 pub returns : goal.returns
 returns c =
-    collect_good _ _ _ _ (sym (client-is (goal.at.returns c).After-number32) ∙ c.in-Value.is) (sym (area-is (goal.at.returns c).After-read) ∙ c.in-Value-read.is) (sym (last-is (goal.at.returns c).After-is_end) ∙ not-false c.is_end.result c.if-not-is_end.false-raw)
+    collect_good _ _ _ _ (sym (client-is (goal.at.returns c).After-number32) ∙ c.in-Value.is) (sym (area-is (goal.at.returns c).After-read) ∙ c.in-Some.is) (sym (last-is (goal.at.returns c).After-is_end) ∙ not-false c.is_end.result c.if-not-is_end.false-raw)

@@ -24,4 +24,4 @@ returns-in_default-wait c =
 
 pub returns : goal.returns
 returns c =
-    rw (c.alone.ensures, c.behind.ensures, c.behind-second.ensures) (consumed_good _ _ _ _ (sym (pid-is (goal.at.returns c).After-pid) ∙ c.in-Value.is) (sym (wait-is (goal.at.returns c).After-wait) ∙ c.in-Value-wait.is))
+    rw (c.alone.ensures, c.behind.ensures, c.behind-second.ensures) (consumed_good _ _ _ _ (sym (pid-is (goal.at.returns c).After-pid) ∙ c.in-Some.is) (sym (wait-is (goal.at.returns c).After-wait) ∙ c.in-Value.is))

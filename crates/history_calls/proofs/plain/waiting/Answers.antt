@@ -10,9 +10,9 @@ use Rattle.history_calls.proofs.plain.waiting.Goals.{After-pid}
 token-is : (c : After-pid) → c.pid.result ≡ pid_of (first_of (items_of 32 c.args.rest.now))
 token-is c = rw c.first.ensures at c.pid.ensures
 
-pub returns-in-Value : goal.returns-in-Value
-returns-in-Value c =
-    rw (c.alone.ensures, c.behind.ensures) (waiting_good _ _ _ (sym (token-is (goal.at.returns-in-Value c).After-pid) ∙ c.in-Value.is))
+pub returns-in-Some : goal.returns-in-Some
+returns-in-Some c =
+    rw (c.alone.ensures, c.behind.ensures) (waiting_good _ _ _ (sym (token-is (goal.at.returns-in-Some c).After-pid) ∙ c.in-Some.is))
 
-pub returns-in-Bad : goal.returns-in-Bad
-returns-in-Bad c = waiting_bad _ _ (sym (token-is (goal.at.returns-in-Bad c).After-pid) ∙ c.in-Bad.is)
+pub returns-in-None : goal.returns-in-None
+returns-in-None c = waiting_bad _ _ (sym (token-is (goal.at.returns-in-None c).After-pid) ∙ c.in-None.is)
