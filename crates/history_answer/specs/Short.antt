@@ -4,7 +4,7 @@ use Rattle.std.proofs.Common.{arith}
 use Rattle.std.proofs.Math.ListN.{length-append}
 use Rattle.base.specs.Write.{over}
 use Rattle.obd2.specs.Core.{Lent, details_of}
-use Rattle.obd2.specs.declared.Answer.{Answer}
+use Rattle.obd2.specs.Answer.{Answer}
 use Rattle.obd2.specs.declared.Details.{Details}
 use Rattle.obd2.specs.declared.rest.Notes.{Notes}
 use Rattle.reply.specs.declared.Response.{Response}

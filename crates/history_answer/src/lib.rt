@@ -2,6 +2,7 @@
 #![tactic(auto)]
 
 ghost use Rattle.std.specs.Prelude.{◌≡◌, [], length};
+ghost use Rattle.obd2.specs.Answer.{answer_of};
 ghost use Rattle.obd2.specs.Core.{lent, details_of};
 ghost use Rattle.poller.specs.Core.{held};
 ghost use Rattle.writing.specs.Added.{Added};
@@ -26,7 +27,7 @@ pub fn answer<const N: usize>(
 )
     requires pids_len { length pids.now ≡ 256 }
     requires rates_len { length rates.now ≡ 256 }
-    ensures { Added N out.old (answer_text answer (details_of (lent [] [] [] [] (held [] [] [] []) pids.now rates.now) notes) delivered area.now) out.new }
+    ensures { Added N out.old (answer_text (answer_of answer) (details_of (lent [] [] [] [] (held [] [] [] []) pids.now rates.now) notes) delivered area.now) out.new }
 {
     history_said::said(out, answer, notes, delivered, area);
     let summary = notes.summary;

@@ -4,6 +4,7 @@
 ghost use Rattle.std.specs.Prelude.{◌≡◌, min, ◌++◌};
 ghost use Rattle.control.specs.declared.DongleMessage.TheVariants.{SetPidPriority};
 ghost use Rattle.numeral.specs.Decimal.{decimal_text};
+ghost use Rattle.obd2.specs.Answer.{answer_of};
 ghost use Rattle.obd2.specs.Core.{Lent, details_of};
 ghost use Rattle.writing.specs.Added.{Added};
 ghost use Rattle.writing_pairs.specs.Pairs.{pid_text};
@@ -11,7 +12,6 @@ ghost use Rattle.history_said.specs.Texts.{held_of, lines_text, reading_text, co
 
 use config::PidPriority;
 use control::DongleMessage;
-use control_line::Taken;
 use link::Connecting;
 use obd2::rest::Notes;
 use obd2::{Answer, Said};
@@ -214,12 +214,12 @@ fn asked<const N: usize>(
 }
 
 // What the poller takes off the control line.
-fn taken<const N: usize>(out: &mut Text<N>, taken: Taken)
+fn taken<const N: usize>(out: &mut Text<N>, taken: Option<DongleMessage>)
     ensures { Added N out.old (taken_text taken) out.new }
 {
     match taken {
-        Taken::Message(message) => control(out, message),
-        Taken::Nothing => out.put(b"none"),
+        Some(message) => control(out, message),
+        None => out.put(b"none"),
     }
 }
 
@@ -292,10 +292,10 @@ pub fn said<const N: usize>(
     delivered: Response,
     area: &[u8],
 )
-    ensures { (x : Lent) → Added N out.old (said_text answer (details_of x notes) delivered area.now) out.new }
+    ensures { (x : Lent) → Added N out.old (said_text (answer_of answer) (details_of x notes) delivered area.now) out.new }
 {
     match answer {
-        Answer::Refused(n) => numbered(out, b"refused ", n as u64),
-        Answer::Accepted(what) => accepted(out, what, notes, delivered, area),
+        Err(refusal) => numbered(out, b"refused ", u64::from(refusal.number())),
+        Ok(what) => accepted(out, what, notes, delivered, area),
     }
 }

@@ -6,7 +6,6 @@ use Rattle.base.specs.Choice.{pick, cases}
 use Rattle.base.specs.Write.{over}
 use Rattle.control.specs.declared.DongleMessage.{DongleMessage}
 use Rattle.control.specs.declared.DongleMessage.TheVariants.{SetPidPriority, RemovePid}
-use Rattle.control.specs.declared.outbox.Slot.{Slot}
 use Rattle.control_line.specs.Ring.{from}
 use Rattle.control_line.specs.declared.ControlLine.{ControlLine}
 use Rattle.desk.specs.declared.Revs.{Revs}
@@ -59,7 +58,7 @@ unfolding message_text
 message_short (SetPidPriority p s) = simp length-append (omega (arith, pid_length p))
 message_short (RemovePid p) = simp length-append (omega (arith, pid_length p))
 
-from_length : (slots : List Slot) (n at : ℕ) → length (from slots at n) ≡ n
+from_length : (slots : List DongleMessage) (n at : ℕ) → length (from slots at n) ≡ n
 unfolding from
 from_length slots zero at = refl
 from_length slots (suc n) at = omega (arith, from_length slots n (suc at))

@@ -8,7 +8,7 @@ use Rattle.config.specs.declared.PidPriority.TheVariants.{Fast, Slow}
 use Rattle.control.specs.declared.DongleMessage.{DongleMessage}
 use Rattle.control.specs.declared.DongleMessage.TheVariants.{SetPidPriority, RemovePid}
 use Rattle.delivery.specs.Rules.{revs_after}
-use Rattle.pid_list.specs.Rules.{empty_list, entries, next_of}
+use Rattle.pid_list.specs.Rules.{empty_list, entries, pid_of, next_of}
 use Rattle.pid_list.specs.declared.PidList.{PidList}
 use Rattle.pid_table.specs.Entry.{is_fast, promotes_of, consumed_of, removed_of}
 use Rattle.pid_table.specs.declared.PidInfo.{PidInfo}
@@ -61,7 +61,7 @@ abbrev polling : PidList → Poller
 polling l = with_lists (start_of 0) l empty_list
 
 abbrev list_row : PidList → DongleMessage → List ℕ
-list_row l m = entries (apply_of (polling l) m).fast ++ ((next_of (apply_of (polling l) m).fast).pid ∷ [])
+list_row l m = entries (apply_of (polling l) m).fast ++ (pid_of (next_of (apply_of (polling l) m).fast) ∷ [])
 
 abbrev pub results : List (List ℕ)
 results =

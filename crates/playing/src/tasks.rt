@@ -66,7 +66,6 @@ fn bare(time: u64, call: Call) -> Task {
 // What a line asks for, if its list is good.
 fn task_of(line: Line) -> Task {
     match line {
-        Line::Bad => Task::Bad,
         Line::Show => Task::Show,
         Line::Call {
             time,
@@ -134,7 +133,9 @@ fn read_line<const N: usize, W: Write>(
     if long {
         return Ok(alone(reading, Task::Bad));
     }
-    let what = history::parse(line, bytes);
+    let Some(what) = history::parse(line, bytes) else {
+        return Ok(alone(notes, Task::Bad));
+    };
     Ok(Taken {
         reading,
         task: task_of(what),

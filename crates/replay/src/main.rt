@@ -98,8 +98,7 @@ fn read_part<const N: usize, R: Read, W: Write>(
     })
 }
 
-// A proved loop has to end, and nothing says that an input does: the turns are counted down from a number
-// that no run uses up.
+// A proved loop has to end, and nothing says that an input does: there are more turns than any run uses up.
 fn run<const N: usize, R: Read, W: Write>(
     replies: &mut [[u8; ROW]; 256],
     marks: &mut [[bool; 256]; PLACES],
@@ -122,8 +121,7 @@ fn run<const N: usize, R: Read, W: Write>(
     requires rates_len { length rates.old ≡ 256 }
 {
     let mut playing = playing::first(replies, marks, table, slots, polled, known, order, ranges);
-    let mut turns = u64::MAX;
-    while turns > 0 {
+    for _ in 0..u64::MAX {
         let turn = read_part(
             replies, marks, table, slots, polled, known, order, ranges, pids, rates, playing, line,
             bytes, area, out, reader, writer,
@@ -132,7 +130,6 @@ fn run<const N: usize, R: Read, W: Write>(
         if !turn.more {
             return Ok(());
         }
-        turns -= 1;
     }
     Ok(())
 }
