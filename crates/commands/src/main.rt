@@ -16,27 +16,22 @@ const OUTPUT: usize = 36864;
 // The most that follows a line.
 const TAIL: usize = 9;
 
-#[derive(Clone, Copy)]
-struct Turn {
+// Reads once and writes what that gives: the line after it, none where the input is at its end.
+fn copy_some<R: Read, W: Write>(
     line: Line,
-    more: bool,
-}
-
-// Reads once and writes what that gives.
-fn copy_some<R: Read, W: Write>(line: Line, reader: &mut R, writer: &mut W) -> io::Result<Turn> {
+    reader: &mut R,
+    writer: &mut W,
+) -> io::Result<Option<Line>> {
     let mut input = [0u8; INPUT];
     let mut out: Text<OUTPUT> = Text::new();
     let n = reader.read(&mut input)?;
     if n == 0 {
-        return Ok(Turn { line, more: false });
+        return Ok(None);
     }
     let fed = transcript::feed(line, &input[..n], &mut out);
     let next = fed.line;
     writer.write_all(out.as_slice())?;
-    Ok(Turn {
-        line: next,
-        more: true,
-    })
+    Ok(Some(next))
 }
 
 fn write_last<W: Write>(line: Line, writer: &mut W) -> io::Result<()> {
@@ -45,20 +40,17 @@ fn write_last<W: Write>(line: Line, writer: &mut W) -> io::Result<()> {
     writer.write_all(last.as_slice())
 }
 
-// A proved loop has to end, and nothing says that an input does: the turns are counted down from a number
+// A proved loop has to end, and nothing says that an input does: it takes no more turns than a number
 // that no run uses up.
 fn main(rt: HostRuntime) -> io::Result<()> {
     let mut reader = rt.stdin();
     let mut writer = rt.stdout();
     let mut line = transcript::start();
-    let mut turns = u64::MAX;
-    while turns > 0 {
-        let turn = copy_some(line, &mut reader, &mut writer)?;
-        line = turn.line;
-        if !turn.more {
+    for _ in 0..u64::MAX {
+        let Some(next) = copy_some(line, &mut reader, &mut writer)? else {
             break;
-        }
-        turns -= 1;
+        };
+        line = next;
     }
     write_last(line, &mut writer)
 }

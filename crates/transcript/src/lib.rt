@@ -95,7 +95,7 @@ pub fn feed<const N: usize>(line: Line, input: &[u8], out: &mut Text<N>) -> Fed
     ensures value { result ≡ fed_of line input.now (N - length out.old) }
     ensures out_after { out.new ≡ out.old ++ part_text line (usable input.now (N - length out.old)) }
 {
-    let n = base::least(input.len(), out.room() / 9);
+    let n = input.len().min(out.room() / 9);
     let mut current = line;
     for i in 0..n {
         current = step(current, input[i], out);
