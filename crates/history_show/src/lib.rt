@@ -141,7 +141,7 @@ fn revs<const N: usize>(out: &mut Text<N>, revs: Option<u32>)
 {
     out.byte(b' ');
     match revs {
-        Some(value) => out.number(u64::from(value)),
+        Some(value) => out.number(value as u64),
         None => out.byte(b'-'),
     }
 }
