@@ -11,8 +11,8 @@ use Rattle.control.specs.declared.DongleMessage.TheVariants.{SetPidPriority, Rem
 use Rattle.link.specs.declared.Connecting.{Connecting}
 use Rattle.link.specs.declared.Connecting.TheVariants.{Connected, Failed, Already}
 use Rattle.numeral.specs.Decimal.{decimal_text}
-use Rattle.obd2.specs.declared.Answer.{Answer}
-use Rattle.obd2.specs.declared.Answer.TheVariants.{Refused, Accepted}
+use Rattle.obd2.specs.Answer.{Answer}
+use Rattle.obd2.specs.Answer.{Refused, Accepted}
 use Rattle.obd2.specs.declared.Details.{Details}
 use Rattle.obd2.specs.declared.Said.{Said}
 use Rattle.obd2.specs.declared.Said.TheVariants as said

@@ -25,11 +25,11 @@ use Rattle.obd2.specs.History.{refused, settled, in_time, start_of}
 use Rattle.obd2.specs.Refusals.{row_refusal, start_refusal}
 use Rattle.obd2.specs.State.{at, no_details, answered, started}
 use Rattle.obd2.specs.declared.State.{State}
-use Rattle.obd2.specs.declared.Answer.{Answer}
-use Rattle.obd2.specs.declared.Answer.TheVariants.{Refused, Accepted}
+use Rattle.obd2.specs.Answer.{Answer}
+use Rattle.obd2.specs.Answer.{Refused, Accepted}
 use Rattle.obd2.specs.declared.Said.{Said}
 use Rattle.obd2.specs.declared.Said.TheVariants.{Started, Client, Done, Asked, Collected, GivenUp, Taken as Took, Connecting, Check, Step}
-use Rattle.obd2.specs.declared.Answered.{Answered}
+use Rattle.obd2.specs.Answer.{Answered}
 use Rattle.obd2.specs.declared.Details.{Details}
 
 -- The refusal's number, 0 where the call is accepted.

@@ -14,6 +14,7 @@ use control_line::places::PLACES;
 use obd2::rest::{Core, Told};
 use obd2::{Said, telling};
 use poller::rest::POLLED;
+use refusal::Refusal;
 
 // The poller after what was taken: a message goes into its lists.
 fn listing(
@@ -45,7 +46,7 @@ pub fn take_control(
     let poller = core.poller;
     let round = poller.round;
     if poller::open(round) {
-        return telling::refuse(core, 12);
+        return telling::refuse(core, Refusal::RoundOpen);
     }
     let ends = core.line;
     let shorter = control_line::places::take(slots, ends);

@@ -37,8 +37,8 @@ use Rattle.obd2.specs.History.{start_of, event_of, accepted, step, run, happened
 use Rattle.obd2.specs.Refusals.{over_range, start_refusal, link_rows, round_rows, rows_of, refusal_of}
 use Rattle.obd2.specs.State.{started}
 use Rattle.obd2.specs.declared.State.{State}
-use Rattle.obd2.specs.declared.Answer.TheVariants.{Accepted}
-use Rattle.obd2.specs.declared.Answered.{Answered}
+use Rattle.obd2.specs.Answer.{Accepted}
+use Rattle.obd2.specs.Answer.{Answered}
 use Rattle.obd2.specs.declared.Said.TheVariants.{Taken}
 use Rattle.agreement.specs.Claim.{asks}
 use Rattle.agreement.specs.Claim.{none as none_asked}

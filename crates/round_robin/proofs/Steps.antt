@@ -33,7 +33,7 @@ use Rattle.obd2.specs.History.{event_of, step, happened}
 use Rattle.obd2.specs.Refusals.{refusal_of}
 use Rattle.obd2.specs.State.{managed}
 use Rattle.obd2.specs.declared.State.{State}
-use Rattle.obd2.specs.declared.Answer.TheVariants.{Accepted}
+use Rattle.obd2.specs.Answer.{Accepted}
 use Rattle.obd2.specs.declared.Said.TheVariants as said
 use Rattle.round_robin.specs.Claim.{is_begin, Seen, seen_at, Quiet, Steady, more}
 use Rattle.round_robin.specs.Marks.{Mark, aside, next_mark, mark_done, mark, rounds_in}

@@ -23,7 +23,7 @@ use Rattle.obd2.specs.Call.{Call, manager, cache, settings, take_control, link, 
 use Rattle.obd2.specs.History.{start_of, Event, accepted_by, accepted, run, happened}
 use Rattle.obd2.specs.Refusals.{round_open}
 use Rattle.obd2.specs.declared.State.{State}
-use Rattle.obd2.specs.declared.Answer.TheVariants.{Accepted}
+use Rattle.obd2.specs.Answer.{Accepted}
 use Rattle.obd2.specs.declared.Said.TheVariants as said
 use Rattle.round_robin.specs.Marks.{Mark, Running, running, marks, mark, open_over, rounds, joined}
 

@@ -4,8 +4,8 @@ use Rattle.history_said.proofs.taken.Goals as goal
 
 pub returns-in-Some : goal.returns-in-Some
 unfolding taken_text
-returns-in-Some c = rw c.in-Some.is c.control.ensures
+returns-in-Some g c = rw c.in-Some.is c.control.ensures
 
 pub returns-in-None : goal.returns-in-None
 unfolding taken_text
-returns-in-None c = rw c.in-None.is c.put.ensures
+returns-in-None g c = rw c.in-None.is c.put.ensures
