@@ -1,6 +1,6 @@
 -- Numbers of fewer than 64 bits, choices and numbers that may be missing: history-format.md, "CLIENT, RATIO and
 -- THRESHOLD have 32 bits, MAXPIDS 8"; "`-` stands for none".
-use Rattle.std.specs.Prelude.{Bool, true, false, List, ℕ, eqb, Option, Some, None}
+use Rattle.std.specs.Prelude.{Bool, List, ℕ, eqb, Option, Some, None}
 use Rattle.std.specs.Option.{option_map}
 use Rattle.history_items.specs.Items.{given}
 use Rattle.base.specs.Choice.{pick}
