@@ -10,15 +10,6 @@ use Rattle.reply.specs.Rules.{max_bytes, first_length_of, first_line}
 use Rattle.reply.specs.declared.Reply.{Reply}
 use Rattle.value.specs.Rules.{head, max_width, width_of, used_of, fold_of, data_of}
 
-module _ (l : Option ℕ) where
-  pub width_known : (n : ℕ) → l ≡ Some n → width_of l ≡ min n max_width
-  unfolding width_of
-  width_known n e = rw e
-
-  pub width_unknown : l ≡ None → width_of l ≡ max_width
-  unfolding width_of
-  width_unknown e = rw e
-
 pub width_le : (l : Option ℕ) → width_of l ≤ max_width
 unfolding width_of
 width_le (Some n) = omega arith
@@ -32,10 +23,6 @@ module _ (l : Option ℕ) (n : ℕ) where
   pub used_le : used_of l n ≤ max_width
   unfolding used_of
   used_le = omega (arith, width_le l)
-
-  pub used_short : n < head → used_of l n ≡ 0
-  unfolding used_of
-  used_short h = omega arith
 
 -- The fold, byte by byte.
 module _ (xs : List ℕ) (acc i : ℕ) where

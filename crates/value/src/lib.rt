@@ -14,16 +14,18 @@ const HEAD: usize = 2;
 const MAX_WIDTH: usize = 4;
 
 // How many bytes a value has at most, by the data length of its PID.
+#[tactic(auto, unfolding(crate::specs::Rules::width_of))]
 fn width(length: Option<u8>) -> usize
     ensures { result ≡ width_of length }
 {
     match length {
-        Some(bytes) => base::least(bytes as usize, MAX_WIDTH),
+        Some(bytes) => (bytes as usize).min(MAX_WIDTH),
         None => MAX_WIDTH,
     }
 }
 
 // How many of them a line of `line` bytes brings.
+#[tactic(auto, unfolding(crate::specs::Rules::used_of))]
 fn used(length: Option<u8>, line: u8) -> usize
     ensures { result ≡ used_of length line }
 {
@@ -31,7 +33,7 @@ fn used(length: Option<u8>, line: u8) -> usize
     if bytes < HEAD {
         return 0;
     }
-    base::least(bytes - HEAD, width(length))
+    (bytes - HEAD).min(width(length))
 }
 
 // The first line's data, the high byte first.
@@ -47,6 +49,7 @@ fn by_length(length: Option<u8>, r: Reply) -> u32
 }
 
 // The value of a reply for a PID. The length is J1979's, whatever a session knows of its dongle.
+#[tactic(auto, unfolding(crate::specs::Rules::value_of))]
 pub fn of_reply(p: u8, r: Reply) -> u32
     ensures { result ≡ value_of p r }
 {
