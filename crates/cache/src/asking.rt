@@ -54,11 +54,9 @@ fn ask_other(core: Core, number: u32, answer: Answer, out: Reply, area: &mut [u8
     ensures by_index { (replies : List (List ℕ)) (marks : List (List Bool)) → asked_in replies marks result ≡ other_of (desk_of replies marks core) number answer out (length area.old) }
     ensures by_index_2 { (replies : List (List ℕ)) (marks : List (List Bool)) → area.new ≡ other_area (desk_of replies marks core) number out area.old }
 {
-    let clients = core.clients;
-    let at = clients::seats::find(clients, number);
-    if at >= PLACES {
+    let Some(_) = clients::seats::find(core.clients, number) else {
         return refuse(core, 8);
-    }
+    };
     if area.len() < reply::size(out) {
         return refuse(core, 14);
     }
@@ -81,10 +79,9 @@ fn ask_cache(
     ensures result_after { asked_in replies.now marks.new result ≡ ask_of (desk_of replies.now marks.old core) time number [] (ToCache pid) (length area.old) }
     ensures area_after { area.new ≡ ask_area (desk_of replies.now marks.old core) number [] (ToCache pid) area.old }
 {
-    let at = clients::seats::find(core.clients, number);
-    if at >= PLACES {
+    let Some(at) = clients::seats::find(core.clients, number) else {
         return refuse(core, 8);
-    }
+    };
     let seat = core.clients[at];
     let wait = seat.wait;
     if wait.waiting {

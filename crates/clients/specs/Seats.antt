@@ -1,11 +1,13 @@
 -- The clients as they are held: each place's number and wait by value, the fresh marks as lent rows, a row for each place.
-use Rattle.std.specs.Prelude.{Bool, true, false, List, [], ◌∷◌, map, ◌≡◌, ℕ, zero, suc, ◌+◌, ◌<◌, eqb, length, set, get_or, replicate}
+use Rattle.std.specs.Prelude.{Bool, true, false, List, [], ◌∷◌, map, ◌≡◌, ℕ, zero, suc, ◌+◌, ◌<◌, ◌≤◌, eqb, nat_lt, length, set, get_or, replicate, Option, MatchOption}
+use Rattle.std.specs.List.{position, position_or_len}
 use Rattle.std.proofs.Math.Path.{refl}
-use Rattle.std.proofs.Common.{ap, sym, ◌∙◌, arith}
-use Rattle.std.proofs.lemmas.List.{length-replicate}
-use Rattle.base.specs.Choice.{pick}
+use Rattle.std.proofs.Common.{ap, sym, ◌∙◌, arith, ltb-true, ltb-false}
+use Rattle.std.proofs.lemmas.List.{length-replicate, get_or-map, ext_get_or}
+use Rattle.std.proofs.Math.ListN.{length-map}
+use Rattle.std.proofs.lemmas.List.Recursion.{is_position_or_len}
+use Rattle.base.specs.Choice.{pick, cases}
 use Rattle.base.specs.Each.{each_of, each_step}
-use Rattle.base.specs.Search.{Search}
 use Rattle.clients.specs.Rules.{places, idle, nobody, newcomer, place_of, seat_of, marked_of, taken_of}
 use Rattle.clients.specs.declared.Client.{Client}
 use Rattle.clients.specs.declared.seats.Seat.{Seat}
@@ -46,10 +48,20 @@ client_at [] (s ∷ seats) (suc i) h = client_at [] seats i (omega arith)
 client_at (m ∷ rows) (s ∷ seats) zero h = refl
 client_at (m ∷ rows) (s ∷ seats) (suc i) h = client_at rows seats i (omega arith)
 
--- The search for a number, place by place.
-pub seat_search : (c : ℕ) → Search (λ s. eqb s.number c) (λ seats. place_of (clients_of [] seats) c)
-unfolding clients_of place_of
-seat_search c = record { none = refl; turn = λ s seats. refl }
+-- WHERE A NUMBER IS FOUND: at its place n, if that is one of the places.
+abbrev pub Found : ℕ → Option ℕ → Type 0
+Found n r = MatchOption r (places ≤ n) (λ i. (i ≡ n) × (i < places))
+
+-- The first place that has a number is the number's place.
+module _ (c : ℕ) where
+  place_first : (seats : List Seat) → place_of (clients_of [] seats) c ≡ position_or_len (λ s. eqb s.number c) seats
+  unfolding clients_of place_of
+  place_first seats = is_position_or_len (λ xs. place_of (clients_of [] xs) c) (λ s. eqb s.number c) refl (λ s xs. let e : 1 + place_of (clients_of [] xs) c ≡ suc (place_of (clients_of [] xs) c) = omega arith in rw e refl) seats
+
+  pub found_first : (seats : List Seat) → length seats ≡ places → Found (place_of (clients_of [] seats) c) (position (λ s. eqb s.number c) seats)
+  found_first seats l = rw (place_first seats, l) (cases _ (nat_lt (position_or_len (λ s. eqb s.number c) seats) places)
+      (λ e. rw e (refl, ltb-true _ places e))
+      (λ e. rw e (ltb-false _ places e)))
 
 -- A client is found by its number, whatever the marks are.
 pub place_any : (rows : List (List Bool)) (seats : List Seat) (c : ℕ) → place_of (clients_of rows seats) c ≡ place_of (clients_of [] seats) c
@@ -168,3 +180,11 @@ nobodies_length = length-replicate places (newcomer 0)
 pub start_clients : clients_of blank_marks vacant_seats ≡ nobodies
 unfolding clients_of blank_marks vacant_seats nobodies newcomer no_marks
 start_clients = refl
+
+-- A list that has at each place what a function makes of another's entry there.
+pub mapped : {A B : Type 0} (f : A → B) (xs : List A) (ys : List B) (d : A) (e : B) → length xs ≡ places → length ys ≡ places
+    → ((i : ℕ) → i < places → get_or ys i e ≡ f (get_or xs i d))
+    → ys ≡ map f xs
+mapped f xs ys d e l m h =
+    let n = length-map xs f in
+    ext_get_or e ys (map f xs) (omega arith) (λ i k. h i (omega arith) ∙ sym (get_or-map f xs i d e (omega arith)))

@@ -1,7 +1,7 @@
 // The clients' places, each with its number and wait, by value; their fresh marks are lent, a row for each place.
-ghost use Rattle.std.specs.Prelude.{Bool, List, [], map, ◌≡◌, length};
+ghost use Rattle.std.specs.Prelude.{Bool, List, [], map, ◌≡◌, ◌==◌, length, position};
 ghost use Rattle.clients.specs.Rules.{places, idle, place_of, seat_of, marked_of, waiting_of, idled_of};
-ghost use Rattle.clients.specs.Seats.{seated, seat_in, marks_in, new_seat, no_marks, clients_of, vacant_seats, blank_marks, nobodies};
+ghost use Rattle.clients.specs.Seats.{Found, seated, seat_in, marks_in, new_seat, no_marks, clients_of, vacant_seats, blank_marks, nobodies};
 
 use super::{Client, PLACES, Wait};
 
@@ -40,27 +40,26 @@ pub fn unmarked() -> [bool; 256]
     [false; 256]
 }
 
-// The first place of a number, or 8.
-pub fn place(seats: [Seat; PLACES], number: u32) -> usize
-    ensures { result ≡ place_of (clients_of [] seats) number }
+// The first place of a number, if it has one.
+pub fn place(seats: [Seat; PLACES], number: u32) -> Option<usize>
+    ensures { Found (place_of (clients_of [] seats) number) result }
 {
-    let mut i: usize = 0;
-    while i < PLACES {
-        let seat = seats[i];
-        if seat.number == number {
-            return i;
-        }
-        i += 1;
-    }
-    PLACES
+    first(&seats, number)
 }
 
-// The place of a registered client, or 8: a client has a number from 1 on.
-pub fn find(seats: [Seat; PLACES], number: u32) -> usize
-    ensures { result ≡ seat_of (clients_of [] seats) number }
+// The first place that has the number.
+fn first(seats: &[Seat], number: u32) -> Option<usize>
+    ensures { result ≡ position (λ s. s.number == number) seats.now }
+{
+    seats.iter().position(|seat| seat.number == number)
+}
+
+// The place of a registered client, if it is one: a client has a number from 1 on.
+pub fn find(seats: [Seat; PLACES], number: u32) -> Option<usize>
+    ensures { Found (seat_of (clients_of [] seats) number) result }
 {
     if number == 0 {
-        return PLACES;
+        return None;
     }
     place(seats, number)
 }
@@ -72,13 +71,10 @@ pub fn mark_all(marks: &mut [[bool; 256]; PLACES], seats: [Seat; PLACES], pid: u
     ensures seats_after { clients_of marks.new seats ≡ map (marked_of pid) (clients_of marks.old seats) }
 {
     let at = pid as usize;
-    let mut i: usize = 0;
-    while i < PLACES {
-        let seat = seats[i];
+    for (i, seat) in seats.iter().enumerate() {
         if seat.number != 0 {
             marks[i][at] = true;
         }
-        i += 1;
     }
 }
 
@@ -124,33 +120,27 @@ pub fn blank() -> [[bool; 256]; PLACES]
 pub fn seats_of(clients: [Client; PLACES]) -> [Seat; PLACES]
     ensures { result ≡ map seat_in clients }
 {
-    let mut seats = vacant();
-    let mut i: usize = 0;
-    while i < PLACES {
-        let client = clients[i];
-        let wait = client.wait;
-        seats[i] = Seat {
-            number: client.number,
-            wait: wait,
-        };
-        i += 1;
-    }
-    seats
+    clients.map(
+        |client: Client| -> Seat
+            ensures { result ≡ seat_in client }
+        {
+            Seat {
+                number: client.number,
+                wait: client.wait,
+            }
+        },
+    )
 }
 
 // The clients' marks, a row for each place.
 pub fn marks_of(clients: [Client; PLACES]) -> [[bool; 256]; PLACES]
     ensures { result ≡ map marks_in clients }
 {
-    let mut marks = blank();
-    let mut i: usize = 0;
-    while i < PLACES {
-        let client = clients[i];
-        let row = client.fresh;
-        marks[i] = row;
-        i += 1;
-    }
-    marks
+    clients.map(
+        |client: Client| -> [bool; 256]
+            ensures { result ≡ marks_in client }
+        { client.fresh },
+    )
 }
 
 fn nobodies() -> [Client; PLACES]
@@ -165,17 +155,12 @@ pub fn clients_of(marks: [[bool; 256]; PLACES], seats: [Seat; PLACES]) -> [Clien
     ensures { result ≡ clients_of marks seats }
 {
     let mut clients = nobodies();
-    let mut i: usize = 0;
-    while i < PLACES {
-        let seat = seats[i];
-        let wait = seat.wait;
-        let row = marks[i];
+    for (i, seat) in seats.iter().enumerate() {
         clients[i] = Client {
             number: seat.number,
-            wait: wait,
-            fresh: row,
+            wait: seat.wait,
+            fresh: marks[i],
         };
-        i += 1;
     }
     clients
 }

@@ -46,11 +46,10 @@ pub fn refusal(core: Core) -> u8
     if core.given >= MOST_NUMBERS {
         return 6;
     }
-    let clients = core.clients;
-    if clients::seats::place(clients, 0) >= PLACES {
-        return 7;
+    match clients::seats::place(core.clients, 0) {
+        Some(_) => 0,
+        None => 7,
     }
-    0
 }
 
 // A new client gets the next number and the lowest free place. One that is refused changes nothing.
@@ -62,11 +61,9 @@ pub fn register(marks: &mut [[bool; 256]; PLACES], mut core: Core) -> Core
     if core.given >= MOST_NUMBERS {
         return core;
     }
-    let clients = core.clients;
-    let at = clients::seats::place(clients, 0);
-    if at >= PLACES {
+    let Some(at) = clients::seats::place(core.clients, 0) else {
         return core;
-    }
+    };
     let number = core.given + 1;
     let newcomer = clients::seats::new(number);
     core.clients[at] = newcomer;
@@ -82,11 +79,9 @@ pub fn leave(marks: &mut [[bool; 256]; PLACES], mut core: Core, number: u32) -> 
     ensures marks_len { length marks.new ≡ places }
     ensures by_index { (replies : List (List ℕ)) → desk_of replies marks.new result ≡ leave_of (desk_of replies marks.old core) number }
 {
-    let clients = core.clients;
-    let at = clients::seats::find(clients, number);
-    if at >= PLACES {
+    let Some(at) = clients::seats::find(core.clients, number) else {
         return core;
-    }
+    };
     let free = clients::seats::new(0);
     core.clients[at] = free;
     let blank = clients::seats::unmarked();

@@ -1,15 +1,15 @@
 -- What the reading of pairs says of a text and of the room that it finds.
-use Rattle.std.specs.Prelude.{true, false, List, ◌≡◌, refl, ℕ, ◌/◌, ◌≤◌, ◌<◌, leb, length}
+use Rattle.std.specs.Prelude.{true, false, List, ◌≡◌, refl, ℕ, ◌/◌, ◌≤◌, ◌<◌, leb, length, Result, Ok, Err}
 use Rattle.std.proofs.Common.{sym, ◌∙◌, leb-true, leb-false}
 use Rattle.base.specs.Choice.{cases}
 use Rattle.hex_text.specs.Pairs.{is_pairs, bytes_of}
-use Rattle.hex_text.specs.declared.Bytes.{Bytes}
-use Rattle.hex_text.specs.declared.Bytes.TheVariants.{Count, Bad, Short}
+use Rattle.hex_text.specs.declared.Unread.{Unread}
+use Rattle.hex_text.specs.declared.Unread.TheVariants as unread
 
-abbrev pub Says : ℕ → List ℕ → Bytes → Type 0
-Says room s (Count n) = (is_pairs s ≡ true) × (n ≡ length s / 2) × (n ≤ room)
-Says room s Bad = is_pairs s ≡ false
-Says room s Short = (is_pairs s ≡ true) × (room < length s / 2)
+abbrev pub Says : ℕ → List ℕ → Result ℕ Unread → Type 0
+Says room s (Ok n) = (is_pairs s ≡ true) × (n ≡ length s / 2) × (n ≤ room)
+Says room s (Err unread.Bad) = is_pairs s ≡ false
+Says room s (Err unread.Short) = (is_pairs s ≡ true) × (room < length s / 2)
 
 says : (room : ℕ) (s : List ℕ) → Says room s (bytes_of room s)
 unfolding bytes_of
@@ -20,12 +20,12 @@ says room s =
     (λ f. rw f (e, leb-false (length s / 2) room f))))
     (λ e. rw e e)
 
-module _ (room : ℕ) (s : List ℕ) (b : Bytes) (e : b ≡ bytes_of room s) where
-  pub count_says : (n : ℕ) → b ≡ Count n → (is_pairs s ≡ true) × (n ≡ length s / 2) × (n ≤ room)
+module _ (room : ℕ) (s : List ℕ) (b : Result ℕ Unread) (e : b ≡ bytes_of room s) where
+  pub count_says : (n : ℕ) → b ≡ Ok n → (is_pairs s ≡ true) × (n ≡ length s / 2) × (n ≤ room)
   count_says n f = rw (sym e ∙ f) at (says room s)
 
-  pub bad_says : b ≡ Bad → is_pairs s ≡ false
+  pub bad_says : b ≡ Err unread.Bad → is_pairs s ≡ false
   bad_says f = rw (sym e ∙ f) at (says room s)
 
-  pub short_says : b ≡ Short → (is_pairs s ≡ true) × (room < length s / 2)
+  pub short_says : b ≡ Err unread.Short → (is_pairs s ≡ true) × (room < length s / 2)
   short_says f = rw (sym e ∙ f) at (says room s)

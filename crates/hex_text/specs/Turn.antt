@@ -1,13 +1,11 @@
 -- Bytes in the place of the text that they were read from.
-use Rattle.std.specs.Prelude.{true, false, List, [], ◌∷◌, ◌++◌, ◌≡◌, refl, ℕ, zero, suc, ◌+◌, ◌-◌, ◌*◌, ◌/◌, ◌%◌, ◌≤◌, eqb, length, get_or, take, drop}
+use Rattle.std.specs.Prelude.{true, false, List, [], ◌∷◌, ◌++◌, ◌≡◌, refl, ℕ, zero, suc, ◌+◌, ◌-◌, ◌*◌, ◌/◌, ◌%◌, ◌≤◌, eqb, length, get_or, take, drop, Option, Some, None}
 use Rattle.std.proofs.Common.{append-nil, ap, sym, ◌∙◌, arith, length-drop, drop_of_length-le, take-add, drop-drop, length-take-le, eq-eqb, ne_eqb}
 use Rattle.std.proofs.Math.Seq.{take-nil, drop-nil, drop-append_seam}
 use Rattle.base.specs.Both.{both, both_left, both_right}
 use Rattle.base.specs.Choice.{cases}
 use Rattle.base.specs.Letters.{letter}
 use Rattle.base.specs.Write.{over, over_none, over_over}
-use Rattle.hex_text.specs.declared.Turned.{Turned}
-use Rattle.hex_text.specs.declared.Turned.TheVariants.{Count, Bad}
 use Rattle.hex_text.specs.Pairs.{is_hex, pair_of, hexes, is_pairs, pairs, turn_of, turned_bytes, command_turn, command_text}
 use Rattle.hex_text.specs.Laws.{pairs_length}
 
@@ -78,22 +76,22 @@ module _ (d : List ℕ) (i m : ℕ) (fits : i + m ≤ length d / 2) where
 
 -- The cases of a text.
 module _ (s : List ℕ) where
-  pub turned_bad : is_pairs s ≡ false → (Bad ≡ turn_of s) × (s ≡ over s 0 (turned_bytes s))
+  pub turned_bad : is_pairs s ≡ false → (None ≡ turn_of s) × (s ≡ over s 0 (turned_bytes s))
   unfolding turn_of turned_bytes
   turned_bad e = (rw e, rw e (sym (over_none s 0)))
 
   pub turned_good : (n : ℕ) (t : List ℕ) → is_pairs s ≡ true → n ≡ length s → t ≡ over s 0 (pairs s)
-      → (Count (n / 2) ≡ turn_of s) × (t ≡ over s 0 (turned_bytes s))
+      → (Some (n / 2) ≡ turn_of s) × (t ≡ over s 0 (turned_bytes s))
   unfolding turn_of turned_bytes
   turned_good n t e f g = (rw (e, f), rw e g)
 
 -- The cases of a command, by its first byte. The bytes behind the mark stay where they are plain.
-pub turned_none : (s : List ℕ) → length s ≡ 0 → (Bad ≡ command_turn s) × (s ≡ over s 1 (command_text s))
+pub turned_none : (s : List ℕ) → length s ≡ 0 → (None ≡ command_turn s) × (s ≡ over s 1 (command_text s))
 unfolding command_turn command_text
 turned_none [] h = (refl, sym (over_none [] 1))
 turned_none (b ∷ s) h = absurd (omega arith)
 
-pub turned_plain : (s : List ℕ) → (length s ≡ 0 → ⊥) → get_or s 0 0 ≡ letter "'" → (Count (length s - 1) ≡ command_turn s) × (s ≡ over s 1 (command_text s))
+pub turned_plain : (s : List ℕ) → (length s ≡ 0 → ⊥) → get_or s 0 0 ≡ letter "'" → (Some (length s - 1) ≡ command_turn s) × (s ≡ over s 1 (command_text s))
 unfolding command_turn command_text over
 turned_plain [] h e = absurd (h refl)
 turned_plain (b ∷ s) h e =
@@ -108,15 +106,15 @@ turned_pairs [] h k e = absurd (h refl)
 turned_pairs (b ∷ s) h k e = (rw (ne_eqb b (letter "'") k, eq-eqb b (letter "x") e), rw (ne_eqb b (letter "'") k, eq-eqb b (letter "x") e))
 
 pub turned_other : (s : List ℕ) → (length s ≡ 0 → ⊥) → (get_or s 0 0 ≡ letter "'" → ⊥) → (get_or s 0 0 ≡ letter "x" → ⊥)
-    → (Bad ≡ command_turn s) × (s ≡ over s 1 (command_text s))
+    → (None ≡ command_turn s) × (s ≡ over s 1 (command_text s))
 unfolding command_turn command_text
 turned_other [] h k e = absurd (h refl)
 turned_other (b ∷ s) h k e = (rw (ne_eqb b (letter "'") k, ne_eqb b (letter "x") e), rw (ne_eqb b (letter "'") k, ne_eqb b (letter "x") e) (sym (over_none (b ∷ s) 1)))
 
 -- The count is that of the bytes, of which a bad text has none; they are no more than the text has, behind a command's mark.
-abbrev pub Speaks : Turned → List ℕ → Type 0
-Speaks (Count n) t = n ≡ length t
-Speaks Bad t = t ≡ []
+abbrev pub Speaks : Option ℕ → List ℕ → Type 0
+Speaks (Some n) t = n ≡ length t
+Speaks None t = t ≡ []
 
 pub turn_speaks : (s : List ℕ) → Speaks (turn_of s) (turned_bytes s)
 unfolding turn_of turned_bytes

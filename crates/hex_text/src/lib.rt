@@ -2,6 +2,7 @@
 #![tactic(auto)]
 
 ghost use Rattle.std.specs.Prelude.{true, ◌≡◌, ◌/◌, ◌≤◌, length};
+ghost use Rattle.ascii.specs.Chars.{hex_value};
 ghost use Rattle.base.specs.Write.{over};
 ghost use Rattle.text.specs.Put.{put_of, put_end};
 ghost use Rattle.hex_text.specs.Pairs.{pid_of, is_pairs, pairs, bytes_of, read_of, plain_of, copy_of, command_of, command_bytes, turn_of, turned_bytes, command_turn, command_text, hex_text};
@@ -9,43 +10,33 @@ ghost use Rattle.hex_text.specs.Pairs.{pid_of, is_pairs, pairs, bytes_of, read_o
 // How many bytes are read before they are put in the place of their pairs.
 const BLOCK: usize = 64;
 
-#[derive(Clone, Copy)]
-pub enum Byte {
-    Value(u8),
-    Bad,
-}
-
-// How many bytes a text stands for.
-#[derive(Clone, Copy)]
-pub enum Bytes {
-    Count(usize),
+// Why the bytes of a text were not read.
+#[derive(Clone, Copy, Debug, PartialEq, Eq)]
+pub enum Unread {
+    // the text doesn't follow its form
     Bad,
     // the lent area has no room for them
     Short,
 }
 
-// How many bytes stand in a text's own place for it.
-#[derive(Clone, Copy)]
-pub enum Turned {
-    Count(usize),
-    Bad,
-}
-
 // Two hex digits.
-pub fn pid(s: &[u8]) -> Byte
+pub fn pid(s: &[u8]) -> Option<u8>
     ensures { result ≡ pid_of s.now }
 {
     if s.len() != 2 {
-        return Byte::Bad;
+        return None;
     }
-    let high = ascii::hex_value(s[0]);
-    let low = ascii::hex_value(s[1]);
-    if high < 16 {
-        if low < 16 {
-            return Byte::Value(high * 16 + low);
-        }
-    }
-    Byte::Bad
+    let high = ascii::hex_value(s[0])?;
+    let low = ascii::hex_value(s[1])?;
+    Some(high * 16 + low)
+}
+
+// The value of a hex digit, 16 for any other byte: a number and no Option, for is_pairs takes the highest of all.
+#[tactic(auto, using(ascii::specs::Chars::hex_or))]
+fn value(b: u8) -> u8
+    ensures { result ≡ hex_value b }
+{
+    ascii::hex_value(b).unwrap_or(16)
 }
 
 // Whether s is hex digits alone, an even number of them. The highest value tells: a loop that leaves at the first other
@@ -57,13 +48,8 @@ pub fn is_pairs(s: &[u8]) -> bool
         return false;
     }
     let mut highest = 0;
-    let mut i = 0;
-    while i < s.len() {
-        let value = ascii::hex_value(s[i]);
-        if highest < value {
-            highest = value;
-        }
-        i += 1;
+    for b in s {
+        highest = highest.max(value(*b));
     }
     highest < 16
 }
@@ -73,30 +59,27 @@ fn read_pairs(s: &[u8], out: &mut [u8])
     requires s_in_bounds { length s.now / 2 ≤ length out.old }
     ensures { out.new ≡ over out.old 0 (pairs s.now) }
 {
-    let n = s.len() / 2;
-    let mut i = 0;
-    while i < n {
-        let high = ascii::hex_value(s[2 * i]);
-        let low = ascii::hex_value(s[2 * i + 1]);
+    for i in 0..s.len() / 2 {
+        let high = value(s[2 * i]);
+        let low = value(s[2 * i + 1]);
         out[i] = high * 16 + low;
-        i += 1;
     }
 }
 
 // Puts the bytes whose pairs s holds at the start of out.
-pub fn read(s: &[u8], out: &mut [u8]) -> Bytes
+pub fn read(s: &[u8], out: &mut [u8]) -> Result<usize, Unread>
     ensures value { result ≡ bytes_of (length out.old) s.now }
     ensures out_after { out.new ≡ read_of out.old s.now }
 {
     if !is_pairs(s) {
-        return Bytes::Bad;
+        return Err(Unread::Bad);
     }
     let n = s.len() / 2;
     if out.len() < n {
-        return Bytes::Short;
+        return Err(Unread::Short);
     }
     read_pairs(s, out);
-    Bytes::Count(n)
+    Ok(n)
 }
 
 // The bytes of a block are read into memory of their own and put in their place then: with one loop that reads and writes s,
@@ -117,35 +100,35 @@ fn turn_pairs(s: &mut [u8])
 }
 
 // Puts the bytes whose pairs s holds at the start of s itself: the pairs that are not read yet stand further on.
-pub fn turn(s: &mut [u8]) -> Turned
+pub fn turn(s: &mut [u8]) -> Option<usize>
     ensures value { result ≡ turn_of s.old }
     ensures s_after { s.new ≡ over s.old 0 (turned_bytes s.old) }
 {
     if !is_pairs(s) {
-        return Turned::Bad;
+        return None;
     }
     turn_pairs(s);
-    Turned::Count(s.len() / 2)
+    Some(s.len() / 2)
 }
 
-fn copy(s: &[u8], out: &mut [u8]) -> Bytes
+fn copy(s: &[u8], out: &mut [u8]) -> Result<usize, Unread>
     ensures value { result ≡ plain_of (length out.old) s.now }
     ensures out_after { out.new ≡ copy_of out.old s.now }
 {
     if out.len() < s.len() {
-        return Bytes::Short;
+        return Err(Unread::Short);
     }
     base::copy(s, out);
-    Bytes::Count(s.len())
+    Ok(s.len())
 }
 
 // Puts the bytes of a command at the start of out: `'` and the bytes themselves, or `x` and their pairs.
-pub fn command(s: &[u8], out: &mut [u8]) -> Bytes
+pub fn command(s: &[u8], out: &mut [u8]) -> Result<usize, Unread>
     ensures value { result ≡ command_of (length out.old) s.now }
     ensures out_after { out.new ≡ command_bytes out.old s.now }
 {
     if s.len() == 0 {
-        return Bytes::Bad;
+        return Err(Unread::Bad);
     }
     if s[0] == b'\'' {
         return copy(&s[1..], out);
@@ -153,25 +136,25 @@ pub fn command(s: &[u8], out: &mut [u8]) -> Bytes
     if s[0] == b'x' {
         return read(&s[1..], out);
     }
-    Bytes::Bad
+    Err(Unread::Bad)
 }
 
 // The same in s itself, where the bytes stand behind the mark then.
-pub fn turn_command(s: &mut [u8]) -> Turned
+pub fn turn_command(s: &mut [u8]) -> Option<usize>
     ensures value { result ≡ command_turn s.old }
     ensures s_after { s.new ≡ over s.old 1 (command_text s.old) }
 {
     if s.len() == 0 {
-        return Turned::Bad;
+        return None;
     }
     let mark = s[0];
     if mark == b'\'' {
-        return Turned::Count(s.len() - 1);
+        return Some(s.len() - 1);
     }
     if mark == b'x' {
         return turn(&mut s[1..]);
     }
-    Turned::Bad
+    None
 }
 
 // Writes the pairs of the bytes from the place at on, as `text::put` writes a text.

@@ -1,69 +1,36 @@
 -- Numbers of fewer than 64 bits, choices and numbers that may be missing: history-format.md, "CLIENT, RATIO and
 -- THRESHOLD have 32 bits, MAXPIDS 8"; "`-` stands for none".
-use Rattle.std.specs.Prelude.{Bool, true, false, List, ℕ, eqb}
+use Rattle.std.specs.Prelude.{Bool, true, false, List, ℕ, eqb, Option, Some, None}
+use Rattle.std.specs.Option.{option_map}
+use Rattle.history_items.specs.Items.{given}
 use Rattle.base.specs.Choice.{pick}
 use Rattle.base.specs.Letters.{letters}
 use Rattle.text.specs.Cut.{same_of}
 use Rattle.numeral.specs.Decimal.{number_of}
-use Rattle.numeral.specs.declared.Number.{Number}
-use Rattle.numeral.specs.declared.Number.TheVariants as number
-use Rattle.hex_text.specs.declared.Byte.{Byte}
-use Rattle.hex_text.specs.declared.Byte.TheVariants as byte
+use Rattle.pid_table.specs.declared.WaitDuration.{WaitDuration}
 use Rattle.pid_table.specs.declared.WaitDuration.TheVariants.{Hit, Miss}
-use Rattle.history_numbers.specs.declared.Word32.{Word32}
-use Rattle.history_numbers.specs.declared.Word32.TheVariants as word32
-use Rattle.history_numbers.specs.declared.FlagToken.{FlagToken}
-use Rattle.history_numbers.specs.declared.FlagToken.TheVariants as flag
-use Rattle.history_numbers.specs.declared.ThresholdToken.{ThresholdToken}
-use Rattle.history_numbers.specs.declared.ThresholdToken.TheVariants as threshold
-use Rattle.history_numbers.specs.declared.WaitToken.{WaitToken}
-use Rattle.history_numbers.specs.declared.WaitToken.TheVariants as wait
 
 unfoldable pub is_none : List ℕ → Bool
 is_none s = same_of s (letters "-")
 
-abbrev pub as_byte : Number → Byte
-as_byte (number.Value n) = byte.Value n
-as_byte number.Bad = byte.Bad
+unfoldable pub byte_of : List ℕ → Option ℕ
+byte_of s = number_of 255 s
 
-abbrev pub as_word : Number → Word32
-as_word (number.Value n) = word32.Value n
-as_word number.Bad = word32.Bad
-
-abbrev pub as_flag : Number → FlagToken
-as_flag (number.Value n) = flag.Value (eqb n 1)
-as_flag number.Bad = flag.Bad
-
-unfoldable pub byte_of : List ℕ → Byte
-byte_of s = as_byte (number_of 255 s)
-
-unfoldable pub word32_of : List ℕ → Word32
-word32_of s = as_word (number_of 4294967295 s)
+unfoldable pub word32_of : List ℕ → Option ℕ
+word32_of s = number_of 4294967295 s
 
 -- "MULTI 0 off, 1 on"; "ENABLED 0 or 1"
-unfoldable pub flag_of : List ℕ → FlagToken
-flag_of s = as_flag (number_of 1 s)
-
-abbrev pub as_threshold : Word32 → ThresholdToken
-as_threshold (word32.Value n) = threshold.Value true n
-as_threshold word32.Bad = threshold.Bad
+unfoldable pub flag_of : List ℕ → Option Bool
+flag_of s = option_map (λ n. eqb n 1) (number_of 1 s)
 
 -- "THRESHOLD a number or `-`"
-unfoldable pub threshold_of : List ℕ → ThresholdToken
-threshold_of s = pick (is_none s) (threshold.Value false 0) (as_threshold (word32_of s))
-
-abbrev pub as_wait : Number → WaitToken
-as_wait (number.Value n) = wait.Value (Miss n)
-as_wait number.Bad = wait.Bad
+unfoldable pub threshold_of : List ℕ → Option (Option ℕ)
+threshold_of s = pick (is_none s) (Some None) (option_map (λ n. Some n) (word32_of s))
 
 -- "WAIT a number or `-`"
-unfoldable pub wait_of : List ℕ → WaitToken
-wait_of s = pick (is_none s) (wait.Value Hit) (as_wait (number_of 18446744073709551615 s))
-
-abbrev pub as_ecu : Byte → Byte
-as_ecu (byte.Value n) = pick (eqb n 0) byte.Bad (byte.Value n)
-as_ecu byte.Bad = byte.Bad
+unfoldable pub wait_of : List ℕ → Option WaitDuration
+wait_of s = pick (is_none s) (Some Hit) (option_map (λ n. Miss n) (number_of 18446744073709551615 s))
 
 -- "ECU a count of 1 to 255 or `-`"
-unfoldable pub ecu_of : List ℕ → Byte
-ecu_of s = pick (is_none s) (byte.Value 0) (as_ecu (byte_of s))
+unfoldable pub ecu_of : List ℕ → Option ℕ
+ecu_of s = pick (is_none s) (Some 0) (given (byte_of s) (λ n. pick (eqb n 0) None (Some n)))

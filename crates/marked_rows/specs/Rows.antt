@@ -1,6 +1,6 @@
 -- DOCUMENT 01'S MARKED ROWS: one table of what the definitions give, and one theorem; the row of five bytes is document
 -- 02's, A1. Beside it the value by every kind of data length.
-use Rattle.std.specs.Prelude.{[], true, false, List, ◌∷◌, ◌++◌, ℕ, ◌+◌, ◌-◌, length, replicate, take}
+use Rattle.std.specs.Prelude.{Option, Some, None, [], true, false, List, ◌∷◌, ◌++◌, ℕ, ◌+◌, ◌-◌, length, replicate, take}
 use Rattle.base.specs.Choice.{pick}
 use Rattle.base.specs.Letters.{letters}
 use Rattle.capture.specs.Format.{record_bytes}
@@ -8,9 +8,7 @@ use Rattle.config.specs.declared.PidPriority.TheVariants.{Fast, Slow}
 use Rattle.control.specs.declared.DongleMessage.{DongleMessage}
 use Rattle.control.specs.declared.DongleMessage.TheVariants.{SetPidPriority, RemovePid}
 use Rattle.delivery.specs.Rules.{revs_after}
-use Rattle.pid.specs.declared.DataLength.{DataLength}
-use Rattle.pid.specs.declared.DataLength.TheVariants as data_length
-use Rattle.pid_list.specs.Rules.{empty_list, entries, next_of}
+use Rattle.pid_list.specs.Rules.{empty_list, entries, pid_of, next_of}
 use Rattle.pid_list.specs.declared.PidList.{PidList}
 use Rattle.pid_table.specs.Entry.{is_fast, promotes_of, consumed_of, removed_of}
 use Rattle.pid_table.specs.declared.PidInfo.{PidInfo}
@@ -63,7 +61,7 @@ abbrev polling : PidList → Poller
 polling l = with_lists (start_of 0) l empty_list
 
 abbrev list_row : PidList → DongleMessage → List ℕ
-list_row l m = entries (apply_of (polling l) m).fast ++ ((next_of (apply_of (polling l) m).fast).pid ∷ [])
+list_row l m = entries (apply_of (polling l) m).fast ++ (pid_of (next_of (apply_of (polling l) m).fast) ∷ [])
 
 abbrev pub results : List (List ℕ)
 results =
@@ -84,17 +82,17 @@ results =
 abbrev bringing : ℕ → Reply
 bringing n = line (take (2 + n) (0x41 ∷ 0x64 ∷ 1 ∷ 2 ∷ 3 ∷ 4 ∷ 5 ∷ 6 ∷ 7 ∷ []))
 
-abbrev length_row : DataLength → ℕ → List ℕ
+abbrev length_row : Option ℕ → ℕ → List ℕ
 length_row l n = value_by l (bringing (n - 1)) ∷ value_by l (bringing n) ∷ value_by l (bringing (n + 1)) ∷ []
 
 -- No PID has a length of 3, or of more than 5, so only these rows show them.
 abbrev pub by_length : List (List ℕ)
 by_length =
-    length_row (data_length.Known 1) 1
-    ∷ length_row (data_length.Known 2) 2
-    ∷ length_row (data_length.Known 3) 3
-    ∷ length_row (data_length.Known 4) 4
-    ∷ length_row (data_length.Known 5) 5
-    ∷ length_row (data_length.Known 6) 6
-    ∷ length_row data_length.Unknown 4
+    length_row (Some 1) 1
+    ∷ length_row (Some 2) 2
+    ∷ length_row (Some 3) 3
+    ∷ length_row (Some 4) 4
+    ∷ length_row (Some 5) 5
+    ∷ length_row (Some 6) 6
+    ∷ length_row None 4
     ∷ []

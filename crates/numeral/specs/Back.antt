@@ -1,9 +1,8 @@
 -- What is written is read back: the text of a number of 64 bits is that number.
-use Rattle.std.specs.Prelude.{List, [], ◌∷◌, ◌≡◌, ℕ, zero, suc, ◌+◌, ◌-◌, ◌*◌, ◌/◌, ◌%◌, ◌<◌, ◌≤◌, ltb, length}
+use Rattle.std.specs.Prelude.{List, [], ◌∷◌, ◌≡◌, ℕ, zero, suc, ◌+◌, ◌-◌, ◌*◌, ◌/◌, ◌%◌, ◌<◌, ◌≤◌, ltb, length, Some}
 use Rattle.std.proofs.Common.{◌∙◌, arith, le-leb, ltb-true}
 use Rattle.ascii.specs.Chars.{between}
 use Rattle.base.specs.Choice.{cases}
-use Rattle.numeral.specs.declared.Number.TheVariants.{Value}
 use Rattle.numeral.specs.Decimal.{number_from, number_of, digits_onto, decimal_text}
 use Rattle.numeral.specs.Laws.{number_some}
 
@@ -42,6 +41,6 @@ some n e =
     (λ f. let z = rw f at e in omega arith)
     (λ f. let z = rw f at e in omega (arith, longer 19 (n / 10) ((48 + n % 10) ∷ [])))
 
-pub read_back : (max n : ℕ) → n ≤ max → n < 18446744073709551616 → number_of max (decimal_text n) ≡ Value n
+pub read_back : (max n : ℕ) → n ≤ max → n < 18446744073709551616 → number_of max (decimal_text n) ≡ Some n
 unfolding decimal_text ten number_from
 read_back max n h k = number_some max (decimal_text n) (some n) ∙ digits_read max 20 n [] (omega arith) ∙ rw (le-leb n max h)

@@ -1,6 +1,6 @@
 -- Document 01's number and values of each answer, what every call promises of them, and the ways to a call's answer that the
 -- functions take.
-use Rattle.std.specs.Prelude.{◌≡◌, ℕ, Bool, true, false, List, [], ◌∷◌, ◌++◌, map, take, ◌==◌, ◌≢◌}
+use Rattle.std.specs.Prelude.{None, Option, Some, ◌≡◌, ℕ, Bool, true, false, List, [], ◌∷◌, ◌++◌, map, take, ◌==◌, ◌≢◌}
 use Rattle.std.specs.Prelude.{refl}
 use Rattle.std.proofs.Common.{sym, ◌∙◌, eqb-true, ne_eqb}
 use Rattle.base.specs.Choice.{pick, one, cases}
@@ -11,9 +11,8 @@ use Rattle.config.specs.Defaults.{default_settings}
 use Rattle.config.specs.declared.PidPriority.TheVariants.{Fast, Slow}
 use Rattle.config.specs.declared.Profiles.{Profiles}
 use Rattle.config.specs.declared.Settings.{Settings}
+use Rattle.control.specs.declared.DongleMessage.{DongleMessage}
 use Rattle.control.specs.declared.DongleMessage.TheVariants.{SetPidPriority, RemovePid}
-use Rattle.control_line.specs.declared.Taken.{Taken}
-use Rattle.control_line.specs.declared.Taken.TheVariants.{Message, Nothing}
 use Rattle.link.specs.declared.Connecting.{Connecting as Connect}
 use Rattle.link.specs.declared.Connecting.TheVariants.{Connected, Failed, Already}
 use Rattle.poller.specs.State.{pids_of}
@@ -44,11 +43,11 @@ number_in (Accepted a) = 0
 abbrev pub line_lengths : Details → List ℕ
 line_lengths d = take d.lines d.lengths
 
-abbrev pub taken_values : Taken → List ℕ
-taken_values Nothing = []
-taken_values (Message (SetPidPriority p Fast)) = p ∷ 0 ∷ []
-taken_values (Message (SetPidPriority p Slow)) = p ∷ 1 ∷ []
-taken_values (Message (RemovePid p)) = p ∷ []
+abbrev pub taken_values : Option DongleMessage → List ℕ
+taken_values None = []
+taken_values (Some (SetPidPriority p Fast)) = p ∷ 0 ∷ []
+taken_values (Some (SetPidPriority p Slow)) = p ∷ 1 ∷ []
+taken_values (Some (RemovePid p)) = p ∷ []
 
 abbrev pub connecting_values : Connect → List ℕ
 connecting_values Connected = []

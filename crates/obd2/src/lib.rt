@@ -3,7 +3,8 @@
 #![tactic(auto)]
 
 use config::{Profiles, Settings};
-use control_line::{ControlLine, Taken};
+use control::DongleMessage;
+use control_line::ControlLine;
 use desk::Desk;
 use link::Connecting;
 use manager::Manager;
@@ -48,7 +49,7 @@ pub enum Said {
     Collected(u8, u64),
     // NO DATA
     GivenUp,
-    Taken(Taken),
+    Taken(Option<DongleMessage>),
     Connecting(Connecting),
     // whether a reconnect may be tried
     Check(bool),

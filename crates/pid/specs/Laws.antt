@@ -1,9 +1,8 @@
 -- What others cite of the lengths: nobody else opens the table.
-use Rattle.std.specs.Prelude.{◌≡◌, refl}
+use Rattle.std.specs.Prelude.{◌≡◌, refl, Some}
 use Rattle.pid.specs.Lengths.{data_length_of, lookup, j1979}
-use Rattle.pid.specs.declared.DataLength.TheVariants.{Known}
 
 -- The engine's revs, PID 0Ch, have two bytes.
-pub revs_length : data_length_of 0x0c ≡ Known 2
+pub revs_length : data_length_of 0x0c ≡ Some 2
 unfolding data_length_of lookup j1979
 revs_length = refl

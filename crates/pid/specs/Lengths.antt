@@ -1,9 +1,7 @@
 -- SAE J1979, mode 01: how many data bytes each PID's reply line has, as the runs of PIDs that have the same number.
 -- PIDs in no run are those that pid.rs lists no length for.
-use Rattle.std.specs.Prelude.{◌&&◌, List, [], ◌∷◌, ℕ, leb}
+use Rattle.std.specs.Prelude.{◌&&◌, List, [], ◌∷◌, Option, Some, None, ℕ, leb}
 use Rattle.base.specs.Choice.{pick}
-use Rattle.pid.specs.declared.DataLength.{DataLength}
-use Rattle.pid.specs.declared.DataLength.TheVariants.{Known, Unknown}
 
 pub record Run : Type 0 where
   pub first : ℕ
@@ -89,9 +87,9 @@ j1979 =
     run 0xc0 0xc0 4 ∷
     []
 
-unfoldable pub lookup : List Run → ℕ → DataLength
-lookup [] p = Unknown
-lookup (r ∷ rs) p = pick (leb r.first p && leb p r.last) (Known r.bytes) (lookup rs p)
+unfoldable pub lookup : List Run → ℕ → Option ℕ
+lookup [] p = None
+lookup (r ∷ rs) p = pick (leb r.first p && leb p r.last) (Some r.bytes) (lookup rs p)
 
-unfoldable pub data_length_of : ℕ → DataLength
+unfoldable pub data_length_of : ℕ → Option ℕ
 data_length_of p = lookup j1979 p

@@ -4,13 +4,6 @@
 ghost use Rattle.std.specs.Prelude.{◌≡◌};
 ghost use Rattle.pid.specs.Lengths.{data_length_of};
 
-// How many data bytes follow the service byte and the PID byte in a mode 01 reply line.
-#[derive(Clone, Copy)]
-pub enum DataLength {
-    Known(u8),
-    Unknown,
-}
-
 // By PID; 0 stands for a length that is not known, since no PID has one of 0.
 const MODE01_PID_DATA_LENGTHS: [u8; 256] = [
     // 00 to 0F
@@ -47,12 +40,13 @@ const MODE01_PID_DATA_LENGTHS: [u8; 256] = [
     0, 0, 0, 0, 0, 0, 0, 0, 0, 0, 0, 0, 0, 0, 0, 0,
 ];
 
-pub fn data_length(pid: u8) -> DataLength
+// How many data bytes follow the service byte and the PID byte in a mode 01 reply line.
+pub fn data_length(pid: u8) -> Option<u8>
     ensures { result ≡ data_length_of pid }
 {
     let length = MODE01_PID_DATA_LENGTHS[pid as usize];
     if length == 0 {
-        return DataLength::Unknown;
+        return None;
     }
-    DataLength::Known(length)
+    Some(length)
 }

@@ -9,7 +9,7 @@ ghost use Rattle.obd2.specs.Done.{listing};
 ghost use Rattle.obd2.specs.Answers.{Answers};
 ghost use Rattle.poller.specs.Core.{Held, with_polled, polled_rows, poller_of};
 
-use control_line::Taken;
+use control::DongleMessage;
 use control_line::places::PLACES;
 use obd2::rest::{Core, Told};
 use obd2::{Said, telling};
@@ -20,15 +20,15 @@ use refusal::Refusal;
 fn listing(
     polled: &mut [[u8; 256]; POLLED],
     poller: poller::rest::Core,
-    taken: Taken,
+    taken: Option<DongleMessage>,
 ) -> poller::rest::Core
     requires { length polled.old ≡ polled_rows }
     ensures polled_len { length polled.new ≡ polled_rows }
     ensures result_after { (x : Held) → poller_of (with_polled x polled.new) result ≡ listing (poller_of (with_polled x polled.old) poller) taken }
 {
     match taken {
-        Taken::Message(message) => poller::calls::apply(polled, poller, message),
-        Taken::Nothing => poller,
+        Some(message) => poller::calls::apply(polled, poller, message),
+        None => poller,
     }
 }
 

@@ -1,5 +1,5 @@
 -- The proof of the claim of `Trip`.
-use Rattle.std.specs.Prelude.{true, false, List, [], ◌∷◌, ◌++◌, map, ◌≡◌, ℕ, suc, ◌+◌, ◌-◌, ◌%◌, ◌^◌, ◌≤◌, ltb, take, drop}
+use Rattle.std.specs.Prelude.{true, false, List, [], ◌∷◌, ◌++◌, None, Ok, Err, map, ◌≡◌, ℕ, suc, ◌+◌, ◌-◌, ◌%◌, ◌^◌, ◌≤◌, ltb, take, drop}
 use Rattle.std.proofs.Common.{append_assoc, append-nil, sym, ◌∙◌, drop_at}
 use Rattle.std.proofs.Math.Path.{refl, ap}
 use native.Mathlib.Omega.{arith}
@@ -11,14 +11,14 @@ use Rattle.base.specs.Choice.{cases}
 use Rattle.base.specs.Write.{over, over_length, take_over}
 use Rattle.text.specs.Cut.{same_of}
 use Rattle.capture.specs.declared.Recorder.{Recorder}
-use Rattle.capture.specs.declared.Recorded.TheVariants.{Written, Overflow, Refused}
+use Rattle.capture.specs.declared.Recorded.TheVariants.{Written, Overflow}
+use Rattle.capture.specs.declared.RecordError.TheVariants.{UnknownKind, TooLong}
 use Rattle.capture.specs.declared.Appended.{Appended}
 use Rattle.capture.specs.Format.{le, record_bytes, fits_in, marked, grown, appended, recorded_of, buffer_of, magic, firmware_text, count_bytes, header_of, empty_recorder, Room}
 use Rattle.capture.specs.Laws.{le_length, fits_room}
-use Rattle.capture_read.specs.declared.Stop.TheVariants.{Nowhere}
+use Rattle.capture_read.specs.declared.Record.{Record}
 use Rattle.capture_read.specs.Reading.{unle, field, header_size, seven_bytes, good_header, record_count, data_length, time_in, type_in, length_in, data_in, size_in, whole, stops, records_from, rest_of, records_of, left_over, row_in, row_of, rows_of, end_of, stop_at, found_of, listed_of, Told}
 use Rattle.capture_read.specs.Cases.{read_listed}
-use Rattle.capture_read.specs.declared.Outcome.TheVariants.{Listed}
 use Rattle.capture_read.specs.Laws.{has_whole, records_step, records_stop, rest_step, rest_stop}
 use Rattle.capture_read.specs.Append.{type_append, size_append}
 use Rattle.streams.specs.Stream.{joined}
@@ -111,83 +111,46 @@ record Left (r : Recorder) (buf : List ℕ) (c : RecordCall) : Type 0 where
   records_is : (recorder_then r buf c).records ≡ r.records
   buffer_is : buffer_then r buf c ≡ buf
 
+-- The one or the other, by what the call answers.
+data Went (r : Recorder) (buf : List ℕ) (c : RecordCall) : Type 0 where
+  wrote : is_written (answer_of r buf c) ≡ true → Put r buf c → Went r buf c
+  aside : is_written (answer_of r buf c) ≡ false → Left r buf c → Went r buf c
+
 module _ (r : Recorder) (buf : List ℕ) (c : RecordCall) where
-  module _ (a : ltb 3 c.kind ≡ true) where
-    unknown_result : recorded_of r buf c.kind c.bytes ≡ appended r (Refused 2)
-    unfolding recorded_of
-    unknown_result = rw a
-
-    unknown_buffer : buffer_then r buf c ≡ buf
-    unfolding buffer_of
-    unknown_buffer = rw a
-
-  module _ (a : ltb 3 c.kind ≡ false) where
-    module _ (b : ltb 65535 (length c.bytes) ≡ true) where
-      long_result : recorded_of r buf c.kind c.bytes ≡ appended r (Refused 5)
-      unfolding recorded_of
-      long_result = rw (a, b)
-
-      long_buffer : buffer_then r buf c ≡ buf
-      unfolding buffer_of
-      long_buffer = rw (a, b)
-
-    module _ (b : ltb 65535 (length c.bytes) ≡ false) where
-      module _ (f : fits_in r (length buf) (length c.bytes) ≡ true) where
-        fit_result : recorded_of r buf c.kind c.bytes ≡ appended (grown r (length c.bytes)) Written
-        unfolding recorded_of
-        fit_result = rw (a, b, f)
-
-        fit_buffer : buffer_then r buf c ≡ over buf r.fill (text_of c)
-        unfolding buffer_of
-        fit_buffer = rw (a, b, f)
-
-      module _ (f : fits_in r (length buf) (length c.bytes) ≡ false) where
-        full_result : recorded_of r buf c.kind c.bytes ≡ appended (marked r) Overflow
-        unfolding recorded_of
-        full_result = rw (a, b, f)
-
-        full_buffer : buffer_then r buf c ≡ buf
-        unfolding buffer_of
-        full_buffer = rw (a, b, f)
-
-  answer_by : (x : Appended) → recorded_of r buf c.kind c.bytes ≡ x → is_written (answer_of r buf c) ≡ is_written x.outcome
-  answer_by x e = ap (λ (y : Appended). is_written y.outcome) e
-
-  put : is_written (answer_of r buf c) ≡ true → Put r buf c
-  unfolding is_written
-  put e = cases _ (ltb 3 c.kind)
-      (λ a. never _ e (answer_by (appended r (Refused 2)) (unknown_result a)))
-      (λ a. cases _ (ltb 65535 (length c.bytes))
-      (λ b. never _ e (answer_by (appended r (Refused 5)) (long_result a b)))
-      (λ b. cases _ (fits_in r (length buf) (length c.bytes))
-      (λ f.
-      record {
-        known = ltb-false 3 c.kind a;
-        short = ltb-false 65535 (length c.bytes) b;
-        room = fits_room r (length buf) (length c.bytes) f;
-        recorder_is = ap (λ (x : Appended). x.recorder) (fit_result a b f);
-        buffer_is = fit_buffer a b f;
-      })
-      (λ f. never _ e (answer_by (appended (marked r) Overflow) (full_result a b f)))))
-
-  left_by : (x : Appended) → recorded_of r buf c.kind c.bytes ≡ x → x.recorder.fill ≡ r.fill → x.recorder.records ≡ r.records
-      → buffer_then r buf c ≡ buf → Left r buf c
-  left_by x e f n b =
-      record {
+  went_aside : (x : Appended) → recorded_of r buf c.kind c.bytes ≡ x → buffer_then r buf c ≡ buf → x.recorder.fill ≡ r.fill
+      → x.recorder.records ≡ r.records → is_written x.outcome ≡ false → Went r buf c
+  went_aside x e b f n o =
+      aside (ap (λ (y : Appended). is_written y.outcome) e ∙ o)
+      (record {
         fill_is = ap (λ (y : Appended). y.recorder.fill) e ∙ f;
         records_is = ap (λ (y : Appended). y.recorder.records) e ∙ n;
         buffer_is = b;
-      }
+      })
+
+  went : Went r buf c
+  unfolding recorded_of buffer_of is_written
+  went = cases _ (ltb 3 c.kind)
+      (λ a. went_aside (appended r (Err UnknownKind)) (rw a) (rw a) refl refl refl)
+      (λ a. cases _ (ltb 65535 (length c.bytes))
+      (λ b. went_aside (appended r (Err TooLong)) (rw (a, b)) (rw (a, b)) refl refl refl)
+      (λ b. cases _ (fits_in r (length buf) (length c.bytes))
+      (λ f.
+      let e : recorded_of r buf c.kind c.bytes ≡ appended (grown r (length c.bytes)) (Ok Written) = rw (a, b, f) in
+      wrote (ap (λ (x : Appended). is_written x.outcome) e)
+      (record {
+        known = ltb-false 3 c.kind a;
+        short = ltb-false 65535 (length c.bytes) b;
+        room = fits_room r (length buf) (length c.bytes) f;
+        recorder_is = ap (λ (x : Appended). x.recorder) e;
+        buffer_is = rw (a, b, f);
+      }))
+      (λ f. went_aside (appended (marked r) (Ok Overflow)) (rw (a, b, f)) (rw (a, b, f)) refl refl refl)))
+
+  put : is_written (answer_of r buf c) ≡ true → Put r buf c
+  put e = elim went [ wrote i p ↦ p | aside i l ↦ never _ e i ]
 
   left : is_written (answer_of r buf c) ≡ false → Left r buf c
-  unfolding is_written
-  left e = cases _ (ltb 3 c.kind)
-      (λ a. left_by (appended r (Refused 2)) (unknown_result a) refl refl (unknown_buffer a))
-      (λ a. cases _ (ltb 65535 (length c.bytes))
-      (λ b. left_by (appended r (Refused 5)) (long_result a b) refl refl (long_buffer a b))
-      (λ b. cases _ (fits_in r (length buf) (length c.bytes))
-      (λ f. never _ (answer_by (appended (grown r (length c.bytes)) Written) (fit_result a b f)) e)
-      (λ f. left_by (appended (marked r) Overflow) (full_result a b f) refl refl (full_buffer a b f))))
+  left e = elim went [ wrote i p ↦ never _ i e | aside i l ↦ l ]
 
   written_here : (cs : List RecordCall) → is_written (answer_of r buf c) ≡ true
       → written_in r buf (c ∷ cs) ≡ c ∷ written_in (recorder_then r buf c) (buffer_then r buf c) cs
@@ -305,7 +268,7 @@ back_more c cs known short b =
     record {
       records = λ p. text_first c short known behind p ∙ ap (λ (rs : List (ℕ × List ℕ)). (p, text_of c) ∷ rs) (b.records (p + n));
       rest = text_rest c short known behind ∙ b.rest;
-      rows = λ p. rw (text_row c short p, text_length c) (ap (λ (rs : List (List ℕ)). row_for p c ∷ rs) (b.rows (p + (seven_bytes + length c.bytes))));
+      rows = λ p. rw (text_row c short p, text_length c) (ap (λ (rs : List Record). row_for p c ∷ rs) (b.rows (p + (seven_bytes + length c.bytes))));
       contents = λ p. rw (text_data c short) (ap (λ (ds : List (List ℕ)). c.bytes ∷ ds) (b.contents (p + n)));
       number = λ p. ap suc (b.number (p + (seven_bytes + length c.bytes)));
     }
@@ -412,7 +375,7 @@ module _ (r : Recorder) (address : List ℕ) (port : ℕ) (text : List ℕ) (fou
     capture_said = header_fill r address port text (take r.fill buf) f.small
 
     capture_listed : listed_of capture
-        ≡ record { count = r.records; length = r.fill; found = record { records = r.records; bytes = r.fill; stop = Nowhere; left = 0 } }
+        ≡ record { count = r.records; length = r.fill; found = record { records = r.records; bytes = r.fill; stop = None; left = 0 } }
     unfolding listed_of found_of stop_at
     capture_listed = rw (capture_count, capture_said, capture_number, capture_bytes, capture_stops, capture_left, counted)
 
@@ -420,7 +383,7 @@ module _ (r : Recorder) (address : List ℕ) (port : ℕ) (text : List ℕ) (fou
     unfolding capture
     capture_good = header_good (take r.fill buf)
 
-    capture_answered : (list : List (List ℕ)) → length ws ≤ length list → Told list capture (Listed (listed_of capture)) (rows_at header_size ws ++ drop (length ws) list)
+    capture_answered : (list : List Record) → length ws ≤ length list → Told list capture (Ok (listed_of capture)) (rows_at header_size ws ++ drop (length ws) list)
     capture_answered list h = rw (capture_rows, b.number header_size) at (read_listed list capture capture_good (rw capture_number h))
 
     read_back : ReadBack r ws (capture_with r buf address port text)

@@ -1,11 +1,10 @@
 -- A capture cut at a place: document 02, A3, "Cut the capture after any byte past the header: exactly the records complete
 -- before the cut are listed, and the bytes left over are reported."
-use Rattle.std.specs.Prelude.{Bool, true, false, List, [], ◌∷◌, ◌++◌, map, ◌≡◌, ℕ, ◌+◌, ◌-◌, ◌≤◌, leb, length, take, drop}
+use Rattle.std.specs.Prelude.{None, Ok, Bool, true, false, List, [], ◌∷◌, ◌++◌, map, ◌≡◌, ℕ, ◌+◌, ◌-◌, ◌≤◌, leb, length, take, drop}
 use Rattle.base.specs.Choice.{pick}
 use Rattle.streams.specs.Stream.{joined}
-use Rattle.capture_read.specs.declared.Stop.TheVariants.{Nowhere}
+use Rattle.capture_read.specs.declared.Record.{Record}
 use Rattle.capture_read.specs.Reading.{header_size, seven_bytes, good_header, record_count, data_length, whole, stops, records_of, left_over, row_of, rows_of, end_of, stop_at, found_of, listed_of, Told}
-use Rattle.capture_read.specs.declared.Outcome.TheVariants.{Listed}
 
 -- Whether a record, as its place and its bytes, ends by the place k.
 unfoldable pub ends_by : ℕ → ℕ × List ℕ → Bool
@@ -60,15 +59,15 @@ pub record CutClaim (bs : List ℕ) (k : ℕ) : Type 0 where
   pub same_end : end_of bs ≤ k → end_of (take k bs) ≡ end_of bs
   -- a type above 3 is reported where its seven bytes are before the cut, at the same place, and nothing else is
   pub stopped : stops (left_over (take k bs)) ≡ pick (leb (end_of bs + seven_bytes) k) (stops (left_over bs)) false
-  pub stop : stop_at (end_of (take k bs)) (left_over (take k bs)) ≡ pick (leb (end_of bs + seven_bytes) k) (stop_at (end_of bs) (left_over bs)) Nowhere
+  pub stop : stop_at (end_of (take k bs)) (left_over (take k bs)) ≡ pick (leb (end_of bs + seven_bytes) k) (stop_at (end_of bs) (left_over bs)) None
   -- so this is what the reader finds
   pub found : found_of (take k bs)
       ≡ record {
         records = length (kept k (records_of bs));
         bytes = bytes_in (kept k (records_of bs));
-        stop = pick (leb (end_of bs + seven_bytes) k) (stop_at (end_of bs) (left_over bs)) Nowhere;
+        stop = pick (leb (end_of bs + seven_bytes) k) (stop_at (end_of bs) (left_over bs)) None;
         left = k - (header_size + bytes_in (kept k (records_of bs)));
       }
   -- and, of a capture with a good header, what it lists where the lent list has room for them
-  pub answered : good_header bs ≡ true → (list : List (List ℕ)) → length (up_to k (records_of bs)) ≤ length list
-      → Told list (take k bs) (Listed (listed_of (take k bs))) (map row_of (up_to k (records_of bs)) ++ drop (length (up_to k (records_of bs))) list)
+  pub answered : good_header bs ≡ true → (list : List Record) → length (up_to k (records_of bs)) ≤ length list
+      → Told list (take k bs) (Ok (listed_of (take k bs))) (map row_of (up_to k (records_of bs)) ++ drop (length (up_to k (records_of bs))) list)

@@ -1,10 +1,10 @@
 -- Laws of the definitions of `Rules`.
-use Rattle.std.specs.Prelude.{true, List, ◌++◌, ◌≡◌, refl, ℕ, suc, ◌+◌, ◌<◌, ◌≤◌, leb, length, get_or, set, take, drop}
-use Rattle.std.proofs.Common.{append_assoc, arith, add-one, length-append, length-take, length-drop, drop_of_length-le, drop-cons, take-suc, take_at, drop_at, length-take-le}
+use Rattle.std.specs.Prelude.{true, List, ◌++◌, ◌≡◌, refl, ℕ, ◌+◌, ◌<◌, ◌≤◌, leb, length, get_or, take, drop}
+use Rattle.std.proofs.Common.{arith, add-one, length-append, length-take, length-drop, drop_of_length-le, drop-cons, take_at, drop_at}
 use Rattle.std.proofs.Math.Seq.{get_or-take}
-use Rattle.std.proofs.lemmas.List.{set_at}
 use borrow.Author.Tests.{leb-true, le-ltb, lt-ltb}
 use Rattle.base.specs.Both.{both_right}
+use Rattle.base.specs.Write.{over}
 use Rattle.reply.specs.Rules.{max_lines, max_bytes, empty_reply, sum_of, counted_of, lengths_of, total_of, within_of, size_of, joined_of, filled_of}
 use Rattle.reply.specs.declared.Reply.{Reply}
 
@@ -23,12 +23,6 @@ counted_le n = omega arith
 pub size_le : (r : Reply) → size_of r ≤ max_bytes
 unfolding size_of
 size_le r = omega arith
-
--- A list whose first i are another list's, and one more of them.
-pub fill_step : (d s : List ℕ) (i : ℕ) → i < length d → i < length s → set (take i s ++ drop i d) i (get_or s i 0) ≡ take (i + 1) s ++ drop (i + 1) d
-fill_step d s i h k =
-    let e = set_at (take i s) (get_or d i 0) (drop (suc i) d) (get_or s i 0) i (length-take-le i s (omega arith)) in
-    rw (add-one i, take-suc s i 0 k, drop-cons d i 0 h, e, append_assoc)
 
 module _ (r : Reply) where
   pub lengths_length : length r.lengths ≡ max_lines → length (lengths_of r) ≡ counted_of r.lines
@@ -55,6 +49,14 @@ module _ (r : Reply) where
   pub filled_long : (area : List ℕ) → size_of r ≤ length area → filled_of r area ≡ joined_of r ++ drop (size_of r) area
   unfolding filled_of
   filled_long area k = rw (le-ltb (length area) (size_of r) k)
+
+  -- An area that has the room, with the bytes written over its start.
+  pub filled_over : (area : List ℕ) → length r.bytes ≡ max_bytes → size_of r ≤ length area → over area 0 (take (size_of r) r.bytes) ≡ filled_of r area
+  unfolding over joined_of
+  filled_over area h k =
+      let l : length (take (size_of r) r.bytes) ≡ size_of r = joined_length h in
+      let z : 0 + size_of r ≡ size_of r = omega arith in
+      rw (filled_long area k, l, z)
 
 -- A reply without lines needs no area, and leaves one as it is.
 pub size_empty : size_of empty_reply ≡ 0

@@ -1,6 +1,6 @@
 -- A reply as a row of numbers, and the newest replies as rows.
-use Rattle.std.specs.Prelude.{List, [], ◌∷◌, ◌++◌, map, ◌≡◌, refl, ℕ, ◌+◌, length, get_or, set, take, drop, replicate}
-use Rattle.std.proofs.Common.{append_assoc, ap, sym, ◌∙◌, arith, take_at, drop_at}
+use Rattle.std.specs.Prelude.{List, [], ◌∷◌, ◌++◌, map, ◌≡◌, ℕ, ◌+◌, length, get_or, set, take, drop, replicate}
+use Rattle.std.proofs.Common.{append_assoc, arith, take_at, drop_at}
 use Rattle.std.proofs.lemmas.List.{length-map, length-replicate}
 use Rattle.std.proofs.Math.ListN.{get_or-map}
 use Rattle.base.specs.Each.{map_set, map_replicate}

@@ -51,44 +51,39 @@ pub fn empty() -> Reply
 }
 
 // How many lines have a length: a reply over the limit is read as far as its array goes.
+#[tactic(auto, unfolding(crate::specs::Rules::counted_of))]
 fn counted(lines: u8) -> usize
     ensures { result ≡ counted_of lines }
 {
-    let n = lines as usize;
-    if n < MAX_LINES { n } else { MAX_LINES }
+    (lines as usize).min(MAX_LINES)
 }
 
 // The bytes of all lines together.
+#[tactic(auto, using(crate::specs::Laws::counted_le))]
 fn total(r: Reply) -> usize
     ensures { result ≡ total_of r }
 {
-    let n = counted(r.lines);
-    let mut sum: usize = 0;
-    let mut i: usize = 0;
-    while i < n {
-        sum += r.lengths[i] as usize;
-        i += 1;
+    let mut sum = 0;
+    for length in &r.lengths[..counted(r.lines)] {
+        sum += usize::from(*length);
     }
     sum
 }
 
 // Whether a reply keeps to the limits.
+#[tactic(auto, unfolding(crate::specs::Rules::within_of))]
 pub fn within(r: Reply) -> bool
     ensures { result ≡ within_of r }
 {
-    let lines = r.lines as usize;
-    if MAX_LINES < lines {
-        return false;
-    }
-    total(r) <= MAX_BYTES
+    r.lines as usize <= MAX_LINES && total(r) <= MAX_BYTES
 }
 
 // How many bytes a reply fills: those of its lines, as far as they are kept.
+#[tactic(auto, unfolding(crate::specs::Rules::size_of))]
 pub fn size(r: Reply) -> usize
     ensures { result ≡ size_of r }
 {
-    let n = total(r);
-    if n < MAX_BYTES { n } else { MAX_BYTES }
+    total(r).min(MAX_BYTES)
 }
 
 // The lines, joined, at the start of a lent area. An area that is too short is left as it is.
@@ -96,17 +91,13 @@ pub fn copy(r: Reply, area: &mut [u8])
     ensures { area.new ≡ filled_of r area.old }
 {
     let n = size(r);
-    if area.len() < n {
-        return;
-    }
-    let mut i: usize = 0;
-    while i < n {
-        area[i] = r.bytes[i];
-        i += 1;
+    if n <= area.len() {
+        base::copy(&r.bytes[..n], area);
     }
 }
 
 // The length of the first line, 0 where there is none.
+#[tactic(auto, unfolding(crate::specs::Rules::first_length_of, crate::specs::Rules::lengths_of))]
 pub fn first_length(r: Reply) -> u8
     ensures { result ≡ first_length_of r }
 {

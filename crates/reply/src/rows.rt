@@ -47,6 +47,7 @@ pub fn unpack(row: [u8; ROW]) -> Reply
 }
 
 // The rows of no reply for any PID.
+#[tactic(auto, unfolding(crate::specs::Rows::blank_rows))]
 pub fn blank() -> [[u8; ROW]; 256]
     ensures { result ≡ blank_rows }
 {
@@ -58,16 +59,13 @@ pub fn pack_all(store: [Reply; 256]) -> [[u8; ROW]; 256]
     ensures { store_of result ≡ store }
 {
     let mut rows = blank();
-    let mut i: usize = 0;
-    while i < 256 {
-        let reply = store[i];
-        let row = pack(reply);
-        rows[i] = row;
-        i += 1;
+    for (i, reply) in store.iter().enumerate() {
+        rows[i] = pack(*reply);
     }
     rows
 }
 
+#[tactic(auto, unfolding(crate::specs::Rows::unknown_replies))]
 fn unknown() -> [Reply; 256]
     ensures { result ≡ unknown_replies }
 {
@@ -80,12 +78,8 @@ pub fn unpack_all(rows: [[u8; ROW]; 256]) -> [Reply; 256]
     ensures { result ≡ store_of rows }
 {
     let mut store = unknown();
-    let mut i: usize = 0;
-    while i < 256 {
-        let row = rows[i];
-        let reply = unpack(row);
-        store[i] = reply;
-        i += 1;
+    for (i, row) in rows.iter().enumerate() {
+        store[i] = unpack(*row);
     }
     store
 }

@@ -1,10 +1,9 @@
 -- How large a value can be: its width in bytes bounds it.
-use Rattle.std.specs.Prelude.{List, [], ◌∷◌, ◌≡◌, ℕ, suc, ◌+◌, ◌*◌, ◌^◌, ◌<◌, ◌≤◌, length, take, drop}
+use Rattle.std.specs.Prelude.{Option, List, [], ◌∷◌, ◌≡◌, ℕ, suc, ◌+◌, ◌*◌, ◌^◌, ◌<◌, ◌≤◌, length, take, drop}
 use Rattle.std.proofs.Common.{arith, lt_of_lt_of_le, zero-lt-suc, length-take}
 use Rattle.std.proofs.Math.Nat.{pow-le-pow_right}
 use Rattle.base.specs.Bytes.{Bytes, bytes_first, bytes_rest, bytes_take, bytes_drop}
 use Rattle.pid.specs.Lengths.{data_length_of}
-use Rattle.pid.specs.declared.DataLength.{DataLength}
 use Rattle.reply.specs.Rules.{first_length_of, first_line}
 use Rattle.reply.specs.declared.Reply.{Reply}
 use Rattle.value.specs.Rules.{head, width_of, fold_of, data_of, value_by, value_of}
@@ -17,7 +16,7 @@ fold_below (b ∷ bs) acc k h l =
     let e : k + suc (length bs) ≡ (k + 1) + length bs = omega arith in
     rw e (fold_below bs (acc * 256 + b) (k + 1) (bytes_rest h) (folds acc b k l (bytes_first h)))
 
-by_below : (l : DataLength) (r : Reply) → Bytes r.bytes → value_by l r < 256 ^ width_of l
+by_below : (l : Option ℕ) (r : Reply) → Bytes r.bytes → value_by l r < 256 ^ width_of l
 unfolding value_by data_of first_line
 by_below l r h =
     let line = drop head (take (first_length_of r) r.bytes) in

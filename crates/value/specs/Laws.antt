@@ -1,32 +1,30 @@
 -- Laws of the definitions of `Rules`.
-use Rattle.std.specs.Prelude.{List, ◌≡◌, ℕ, ◌+◌, ◌-◌, ◌*◌, ◌^◌, ◌<◌, ◌≤◌, min, leb, length, get_or, take, drop}
+use Rattle.std.specs.Prelude.{Option, Some, None, List, ◌≡◌, ℕ, ◌+◌, ◌-◌, ◌*◌, ◌^◌, ◌<◌, ◌≤◌, min, leb, length, get_or, take, drop}
 use Rattle.std.proofs.Common.{sym, ◌∙◌, add-one, pow-suc, zero-lt-suc, drop_of_length-le, take_all, leb-true, leb-false}
 use native.Mathlib.Omega.{arith}
 use Rattle.std.proofs.Math.Nat.{pow-le-pow_right}
 use Rattle.std.proofs.Math.ListN.{length-take, length-drop}
 use Rattle.std.proofs.Math.Seq.{drop-cons, get_or-take, get_or-drop}
 use Rattle.base.specs.Choice.{cases}
-use Rattle.pid.specs.declared.DataLength.{DataLength}
-use Rattle.pid.specs.declared.DataLength.TheVariants.{Known, Unknown}
 use Rattle.reply.specs.Rules.{max_bytes, first_length_of, first_line}
 use Rattle.reply.specs.declared.Reply.{Reply}
 use Rattle.value.specs.Rules.{head, max_width, width_of, used_of, fold_of, data_of}
 
-module _ (l : DataLength) where
-  pub width_known : (n : ℕ) → l ≡ Known n → width_of l ≡ min n max_width
+module _ (l : Option ℕ) where
+  pub width_known : (n : ℕ) → l ≡ Some n → width_of l ≡ min n max_width
   unfolding width_of
   width_known n e = rw e
 
-  pub width_unknown : l ≡ Unknown → width_of l ≡ max_width
+  pub width_unknown : l ≡ None → width_of l ≡ max_width
   unfolding width_of
   width_unknown e = rw e
 
-pub width_le : (l : DataLength) → width_of l ≤ max_width
+pub width_le : (l : Option ℕ) → width_of l ≤ max_width
 unfolding width_of
-width_le (Known n) = omega arith
-width_le Unknown = omega arith
+width_le (Some n) = omega arith
+width_le None = omega arith
 
-module _ (l : DataLength) (n : ℕ) where
+module _ (l : Option ℕ) (n : ℕ) where
   pub used_present : used_of l n ≤ n - head
   unfolding used_of
   used_present = omega arith
@@ -70,7 +68,7 @@ take_least d k xs h = cases _ (leb d k)
 
 module _ (r : Reply) where
   -- What is used is what the width lets in of what is present.
-  pub data_used : (l : DataLength) → data_of (used_of l (first_length_of r)) r ≡ data_of (width_of l) r
+  pub data_used : (l : Option ℕ) → data_of (used_of l (first_length_of r)) r ≡ data_of (width_of l) r
   unfolding data_of used_of first_line
   data_used l =
       let n = first_length_of r in

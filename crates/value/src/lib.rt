@@ -5,7 +5,6 @@
 ghost use Rattle.std.specs.Prelude.{◌≡◌};
 ghost use Rattle.value.specs.Rules.{width_of, used_of, value_by, value_of};
 
-use pid::DataLength;
 use reply::Reply;
 
 // A line begins with the mode and the PID, which are no data.
@@ -15,17 +14,17 @@ const HEAD: usize = 2;
 const MAX_WIDTH: usize = 4;
 
 // How many bytes a value has at most, by the data length of its PID.
-fn width(length: DataLength) -> usize
+fn width(length: Option<u8>) -> usize
     ensures { result ≡ width_of length }
 {
     match length {
-        DataLength::Known(bytes) => base::least(bytes as usize, MAX_WIDTH),
-        DataLength::Unknown => MAX_WIDTH,
+        Some(bytes) => base::least(bytes as usize, MAX_WIDTH),
+        None => MAX_WIDTH,
     }
 }
 
 // How many of them a line of `line` bytes brings.
-fn used(length: DataLength, line: u8) -> usize
+fn used(length: Option<u8>, line: u8) -> usize
     ensures { result ≡ used_of length line }
 {
     let bytes = line as usize;
@@ -36,15 +35,13 @@ fn used(length: DataLength, line: u8) -> usize
 }
 
 // The first line's data, the high byte first.
-fn by_length(length: DataLength, r: Reply) -> u32
+fn by_length(length: Option<u8>, r: Reply) -> u32
     ensures { result ≡ value_by length r }
 {
     let n = used(length, reply::first_length(r));
     let mut acc: u32 = 0;
-    let mut i: usize = 0;
-    while i < n {
+    for i in 0..n {
         acc = acc * 256 + r.bytes[i + HEAD] as u32;
-        i += 1;
     }
     acc
 }

@@ -70,10 +70,9 @@ pub fn collect(
     ensures result_after { collected_in replies.now marks.new result ≡ collect_of (desk_of replies.now marks.old core) time number (length area.old) }
     ensures area_after { area.new ≡ collect_area (desk_of replies.now marks.old core) number area.old }
 {
-    let at = clients::seats::find(core.clients, number);
-    if at >= PLACES {
+    let Some(at) = clients::seats::find(core.clients, number) else {
         return refuse(core, 8);
-    }
+    };
     let seat = core.clients[at];
     let wait = seat.wait;
     if !wait.waiting {
@@ -100,13 +99,12 @@ pub fn collect(
 pub fn give_up(mut core: Core, number: u32) -> Ended
     ensures { (replies : List (List ℕ)) (marks : List (List Bool)) → given_up_in replies marks result ≡ give_up_of (desk_of replies marks core) number }
 {
-    let at = clients::seats::find(core.clients, number);
-    if at >= PLACES {
+    let Some(at) = clients::seats::find(core.clients, number) else {
         return Ended {
             core: core,
             refusal: 8,
         };
-    }
+    };
     let seat = core.clients[at];
     let wait = seat.wait;
     if !wait.waiting {

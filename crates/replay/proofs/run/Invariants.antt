@@ -7,4 +7,4 @@ use Rattle.replay.proofs.run.Given as goal
 
 abbrev pub invariant-loop : goal.invariant-loop
 invariant-loop g l =
-    (length l.line ≡ length l.initial.line) × (length l.bytes ≡ length l.initial.bytes) × (length l.area ≡ length l.initial.area) × (length l.out ≡ length l.initial.out) × Whole (lent l.replies l.marks l.table l.slots (held l.polled l.known l.order l.ranges) l.pids l.rates)
+    (length l.line ≡ length l.initial.line) × (length l.bytes ≡ length l.initial.bytes) × (length l.area ≡ length l.initial.area) × Whole (lent l.replies l.marks l.table l.slots (held l.polled l.known l.order l.ranges) l.pids l.rates)

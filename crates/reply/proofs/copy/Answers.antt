@@ -1,41 +1,18 @@
-use mathlib.Core.List.{List}
-use mathlib.Core.Path.{◌≡◌, refl, sym, ◌∙◌, ap}
-use native.Mathlib.Omega.{arith}
-use Prim.Native.Nat.{ℕ, ◌-◌}
-use lib.ListN.{length, get_or, set, length-set}
-use Rattle.reply.specs.Rules.{max_bytes, size_of, joined_of}
-use Rattle.reply.specs.Laws.{size_le, fill_step, filled_short, filled_long}
-use borrow.Author.Rules.{rules}
+use Rattle.std.proofs.Common.{rules, arith, sym, ◌≡◌, length}
+use Rattle.reply.specs.Rules.{max_bytes}
+use Rattle.reply.specs.Laws.{size_le, filled_short, filled_over}
 use Rattle.reply.proofs.copy.Goals as goal
 use Rattle.reply.proofs.copy.Goals.{Start}
 
 long : (c : Start) → length c.args.r.bytes ≡ max_bytes
 long c = search rules
 
-pub returns-then-area-n : goal.returns-then-area-n
-returns-then-area-n c =
-    let a = c.args in
-    sym (filled_short a.r a.area.now (rw c.size-n.ensures at c.if-area-n.true))
+pub shared_ref_as_front-copy : goal.shared_ref_as_front-copy
+shared_ref_as_front-copy c = omega (arith, size_le c.args.r)
 
-pub loop-i-init : goal.loop-i-init
-loop-i-init c = (omega arith, refl, refl)
+pub returns-then-n-area : goal.returns-then-n-area
+returns-then-n-area c =
+    rw (c.copy.ensures, c.size-n.ensures) (filled_over c.args.r c.args.area.now (long (goal.at.returns-then-n-area c).Start) (omega arith))
 
-pub bounds-r-i : goal.bounds-r-i
-bounds-r-i c = omega (arith, size_le c.args.r)
-
-pub loop-i-preserved : goal.loop-i-preserved
-loop-i-preserved c =
-    let i = c.loop-i.i in
-    let l = long (goal.at.loop-i-preserved c).Start in
-    let z = size_le c.args.r in
-    let e = ap (λ (x : List ℕ). set x i (get_or c.args.r.bytes i 0)) c.loop-i.invariant.2 in
-    (omega arith, simp length-set c.loop-i.invariant.1, e ∙ fill_step c.args.area.now c.args.r.bytes i (omega arith) (omega arith))
-
-pub returns : goal.returns
-unfolding joined_of
-returns c =
-    let r = c.args.r in
-    let n = c.size-n.result in
-    let i = c.loop-i.i in
-    let e : i ≡ size_of r = omega arith in
-    rw (filled_long r c.args.area.now (omega arith), ← e) c.loop-i.invariant.2
+pub returns-else-n-area : goal.returns-else-n-area
+returns-else-n-area c = sym (filled_short c.args.r c.args.area.now (omega arith))

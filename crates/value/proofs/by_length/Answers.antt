@@ -28,14 +28,14 @@ present : (c : After-used-n) → c.used-n.result ≤ first_length_of c.args.r - 
 present c = rw (many c) (used_present _ _)
 
 pub loop-i-init : goal.loop-i-init
-loop-i-init c = (omega arith, omega arith, refl)
+loop-i-init c = (omega arith, refl)
 
 pub overflow_mul-acc : goal.overflow_mul-acc
 overflow_mul-acc c =
     let i = c.loop-i.i in
     let k = few (goal.at.overflow_mul-acc c).After-used-n in
     let f = folds_fit (i + 1) (omega arith) in
-    omega (arith, folds c.loop-i.acc 0 i c.loop-i.invariant.1 (omega arith))
+    omega (arith, folds c.loop-i.acc 0 i c.loop-i.invariant.0 (omega arith))
 
 pub overflow_add-acc : goal.overflow_add-acc
 overflow_add-acc c = omega (arith, few (goal.at.overflow_add-acc c).After-used-n)
@@ -52,7 +52,7 @@ overflow_add-acc-in-loop-i c =
     let b = byte (goal.at.overflow_add-acc-in-loop-i c).Start (i + head) in
     let k = few (goal.at.overflow_add-acc-in-loop-i c).After-used-n in
     let f = folds_fit (i + 1) (omega arith) in
-    omega (arith, folds c.loop-i.acc (get_or c.args.r.bytes (i + head) 0) i c.loop-i.invariant.1 (omega arith))
+    omega (arith, folds c.loop-i.acc (get_or c.args.r.bytes (i + head) 0) i c.loop-i.invariant.0 (omega arith))
 
 pub loop-i-preserved : goal.loop-i-preserved
 loop-i-preserved c =
@@ -63,9 +63,8 @@ loop-i-preserved c =
     let b = byte (goal.at.loop-i-preserved c).Start (i + head) in
     let d = data_at r n (present (goal.at.loop-i-preserved c).After-used-n) i (omega arith) in
     let e = fold_step (data_of n r) acc i (rw (data_length r n (present (goal.at.loop-i-preserved c).After-used-n) (long (goal.at.loop-i-preserved c).Start) (few (goal.at.loop-i-preserved c).After-used-n)) (omega arith)) in (
-      omega arith,
-      folds acc (get_or r.bytes (i + head) 0) i c.loop-i.invariant.1 (omega arith),
-      sym (rw d at e) ∙ c.loop-i.invariant.2,
+      folds acc (get_or r.bytes (i + head) 0) i c.loop-i.invariant.0 (omega arith),
+      sym (rw d at e) ∙ c.loop-i.invariant.1,
     )
 
 pub returns : goal.returns
@@ -74,4 +73,4 @@ returns c =
     let r = c.args.r in
     let n = c.used-n.result in
     let at-end = fold_end (data_of n r) c.loop-i.acc c.loop-i.i (rw (data_length r n (present (goal.at.returns c).After-used-n) (long (goal.at.returns c).Start) (few (goal.at.returns c).After-used-n)) (omega arith)) in
-    sym at-end ∙ c.loop-i.invariant.2 ∙ rw (many (goal.at.returns c).After-used-n, data_used r c.args.length)
+    sym at-end ∙ c.loop-i.invariant.1 ∙ rw (many (goal.at.returns c).After-used-n, data_used r c.args.length)

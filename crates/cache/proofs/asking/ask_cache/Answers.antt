@@ -1,5 +1,5 @@
 use Rattle.std.specs.Prelude.{◌≡◌, length}
-use mathlib.Core.Path.{ap, ◌∙◌}
+use mathlib.Core.Path.{refl, ap, ◌∙◌}
 use native.Mathlib.Omega.{arith}
 use lib.ListN.{length-set}
 use borrow.Author.Tests.{lt-ltb, le-ltb}
@@ -7,16 +7,15 @@ use Rattle.clients.specs.Rules.{places}
 use Rattle.cache.specs.Asking.{asked_in, stranger_asks, busy_asks, short_asks, reads, begins}
 use borrow.Author.Rules.{rules}
 use Rattle.cache.proofs.asking.ask_cache.Goals as goal
-use Rattle.cache.proofs.asking.ask_cache.Goals.{Else-at-ge-PLACES}
+use Rattle.cache.proofs.asking.ask_cache.Goals.{In-Some}
 
-whole : (c : Else-at-ge-PLACES) → length c.args.core.clients ≡ places
+whole : (c : In-Some) → length c.args.core.clients ≡ places
 whole c = search rules
 
-pub returns-then-at-ge-PLACES : goal.returns-then-at-ge-PLACES
-returns-then-at-ge-PLACES c =
-    let f = c.find-at in
+pub returns-in_default : goal.returns-in_default
+returns-in_default c =
     let a = c.args in
-    let p = stranger_asks a.replies.now a.marks.now a.core a.number f.result f.ensures a.time a.pid a.area.now c.if-at-ge-PLACES.true in
+    let p = stranger_asks a.replies.now a.marks.now a.core a.number _ refl a.time a.pid a.area.now c.in_default.ensures in
     record {
       marks_len = search rules;
       result_after = ap (asked_in a.replies.now a.marks.now) c.refuse.ensures ∙ p.0;
@@ -25,9 +24,9 @@ returns-then-at-ge-PLACES c =
 
 pub returns-then-wait : goal.returns-then-wait
 returns-then-wait c =
-    let f = c.find-at in
+    let f = c.in-Some.ensures in
     let a = c.args in
-    let p = busy_asks a.replies.now a.marks.now a.core a.number f.result f.ensures a.time a.pid a.area.now c.if-at-ge-PLACES.false (whole (goal.at.returns-then-wait c).Else-at-ge-PLACES) c.if-wait.true in
+    let p = busy_asks a.replies.now a.marks.now a.core a.number _ f.0 a.time a.pid a.area.now f.1 (whole (goal.at.returns-then-wait c).In-Some) c.if-wait.true in
     record {
       marks_len = search rules;
       result_after = ap (asked_in a.replies.now a.marks.now) c.refuse-then-wait.ensures ∙ p.0;
@@ -36,10 +35,10 @@ returns-then-wait c =
 
 pub returns-then-area-size : goal.returns-then-area-size
 returns-then-area-size c =
-    let f = c.find-at in
+    let f = c.in-Some.ensures in
     let a = c.args in
     let s = lt-ltb _ _ (rw (c.size.ensures, c.unpack-out.ensures) at c.if-area-size.true) in
-    let p = short_asks a.replies.now a.marks.now a.core a.number f.result f.ensures a.time a.pid a.area.now c.if-at-ge-PLACES.false (whole (goal.at.returns-then-area-size c).Else-at-ge-PLACES) c.if-wait.false c.if-marks-at.true s in
+    let p = short_asks a.replies.now a.marks.now a.core a.number _ f.0 a.time a.pid a.area.now f.1 (whole (goal.at.returns-then-area-size c).In-Some) c.if-wait.false c.if-marks-at.true s in
     record {
       marks_len = search rules;
       result_after = ap (asked_in a.replies.now a.marks.now) c.refuse-then-area-size.ensures ∙ p.0;
@@ -48,11 +47,11 @@ returns-then-area-size c =
 
 pub returns-then-marks-at : goal.returns-then-marks-at
 returns-then-marks-at c =
-    let f = c.find-at in
+    let f = c.in-Some.ensures in
     let a = c.args in
     let s = le-ltb _ _ (rw (c.size.ensures, c.unpack-out.ensures) at c.if-area-size.false) in
     let l : length a.marks.now ≡ places = search rules in
-    let p = reads a.replies.now a.marks.now a.core a.number f.result f.ensures a.time a.pid a.area.now c.if-at-ge-PLACES.false (whole (goal.at.returns-then-marks-at c).Else-at-ge-PLACES) c.if-wait.false c.if-marks-at.true s (omega arith) in
+    let p = reads a.replies.now a.marks.now a.core a.number _ f.0 a.time a.pid a.area.now f.1 (whole (goal.at.returns-then-marks-at c).In-Some) c.if-wait.false c.if-marks-at.true s (omega arith) in
     record {
       marks_len = simp length-set l;
       result_after = ap (asked_in a.replies.now _) c.tell.ensures ∙ rw c.unpack-out.ensures p.0;
@@ -61,9 +60,9 @@ returns-then-marks-at c =
 
 pub returns : goal.returns
 returns c =
-    let f = c.find-at in
+    let f = c.in-Some.ensures in
     let a = c.args in
-    let p = begins a.replies.now a.marks.now a.core a.number f.result f.ensures a.time a.pid a.area.now c.if-at-ge-PLACES.false (whole (goal.at.returns c).Else-at-ge-PLACES) c.if-wait.false c.begin_wait-waiting.result c.begin_wait-waiting.ensures c.if-marks-at.false in
+    let p = begins a.replies.now a.marks.now a.core a.number _ f.0 a.time a.pid a.area.now f.1 (whole (goal.at.returns c).In-Some) c.if-wait.false c.begin_wait-waiting.result c.begin_wait-waiting.ensures c.if-marks-at.false in
     record {
       marks_len = search rules;
       result_after = ap (asked_in a.replies.now a.marks.now) c.tell-2.ensures ∙ rw c.empty.ensures p.0;

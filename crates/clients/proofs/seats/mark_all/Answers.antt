@@ -10,7 +10,7 @@ use Rattle.clients.proofs.seats.mark_all.Goals as goal
 use Rattle.clients.proofs.seats.mark_all.Goals.{else-seat-ne0, then-seat-ne0}
 
 pub loop-i-init : goal.loop-i-init
-loop-i-init c = (omega arith, search rules, sym (each_none _ _))
+loop-i-init c = (search rules, sym (each_none _ _))
 
 pub loop-i-preserved : goal.loop-i-preserved
 loop-i-preserved c =
@@ -18,16 +18,14 @@ loop-i-preserved c =
     let i = c.loop-i.i in
     let l : length c.args.seats ≡ places = search rules in
     let m = clients_length c.args.marks.now c.args.seats in
-    let long = c.loop-i.invariant.1 in
-    let e = c.loop-i.invariant.2 in
+    let long = c.loop-i.invariant.0 in
+    let e = c.loop-i.invariant.1 in
     elim c.if-seat-ne0.branch [
       | then-seat-ne0 w ↦ (
-        omega arith,
         rw w.marks-is (simp length-set long),
         rw w.marks-is (mark_taken c.args.pid rows c.args.seats _ i (omega arith) m e (omega arith) (ne_eqb _ _ w.if-seat-ne0.true)),
       )
       | else-seat-ne0 w ↦ (
-        omega arith,
         rw w.marks-is long,
         rw w.marks-is (mark_free c.args.pid rows c.args.seats _ i (omega arith) m e (eq-eqb _ _ w.if-seat-ne0.false)),
       )
@@ -39,6 +37,6 @@ returns c =
     let m = clients_length c.args.marks.now c.args.seats in
     let l : length c.args.seats ≡ places = search rules in
     record {
-      marks_len = c.loop-i.invariant.1;
-      seats_after = c.loop-i.invariant.2 ∙ each_all (marked_of c.args.pid) i _ (omega arith);
+      marks_len = c.loop-i.invariant.0;
+      seats_after = c.loop-i.invariant.1 ∙ each_all (marked_of c.args.pid) i _ (omega arith);
     }

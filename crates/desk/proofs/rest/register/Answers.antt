@@ -1,4 +1,4 @@
-use mathlib.Core.Path.{◌≡◌, ap, sym, ◌∙◌}
+use mathlib.Core.Path.{◌≡◌, refl, ap, sym, ◌∙◌}
 use native.Mathlib.Omega.{arith}
 use lib.ListN.{length, length-set}
 use borrow.Author.Tests.{le-leb, lt-leb}
@@ -18,25 +18,26 @@ returns-then-core-ge-MOST_NUMBERS c =
       by_index = λ replies. ap (λ (r : Registered). r.desk) (sym (register_numbers (desk_of replies a.marks.now a.core) (le-leb _ _ c.if-core-ge-MOST_NUMBERS.true)));
     }
 
-pub returns-then-at-ge-PLACES : goal.returns-then-at-ge-PLACES
-returns-then-at-ge-PLACES c =
+pub returns-in_default : goal.returns-in_default
+returns-in_default c =
     let a = c.args in record {
       marks_len = search rules;
       by_index = λ replies.
           let d = desk_of replies a.marks.now a.core in
-          let e = held_place replies a.marks.now a.core 0 _ c.place-at.ensures in
-          ap (λ (r : Registered). r.desk) (sym (register_full d (lt-leb most_numbers d.given c.if-core-ge-MOST_NUMBERS.false) (le-leb places (place_of d.clients 0) (rw e at c.if-at-ge-PLACES.true))));
+          let e = held_place replies a.marks.now a.core 0 _ refl in
+          ap (λ (r : Registered). r.desk) (sym (register_full d (lt-leb most_numbers d.given c.if-core-ge-MOST_NUMBERS.false) (le-leb places (place_of d.clients 0) (rw e at c.in_default.ensures))));
     }
 
 pub returns : goal.returns
 returns c =
     let a = c.args in
-    let p = c.place-at in
+    let i = c.in-Some.at in
+    let p = c.in-Some.ensures in
     let l : length a.marks.now ≡ places = search rules in record {
       marks_len = simp length-set l;
       by_index = λ replies.
           let d = desk_of replies a.marks.now a.core in
-          let e = held_place replies a.marks.now a.core 0 _ p.ensures in
-          put_entered replies a.marks.now a.core p.result c.unmarked-blank.result c.new-newcomer.result e (omega arith) c.unmarked-blank.ensures c.new-newcomer.ensures
-          ∙ ap (λ (r : Registered). r.desk) (sym (register_done d (lt-leb most_numbers d.given c.if-core-ge-MOST_NUMBERS.false) (lt-leb places (place_of d.clients 0) (rw e at c.if-at-ge-PLACES.false))));
+          let e = held_place replies a.marks.now a.core 0 i p.0 in
+          put_entered replies a.marks.now a.core i c.unmarked-blank.result c.new-newcomer.result e (omega arith) c.unmarked-blank.ensures c.new-newcomer.ensures
+          ∙ ap (λ (r : Registered). r.desk) (sym (register_done d (lt-leb most_numbers d.given c.if-core-ge-MOST_NUMBERS.false) (lt-leb places (place_of d.clients 0) (rw e at p.1))));
     }

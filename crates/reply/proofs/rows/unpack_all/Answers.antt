@@ -1,18 +1,12 @@
-use mathlib.Core.Path.{◌≡◌, refl, sym, ap, ◌∙◌}
-use native.Mathlib.Omega.{arith}
-use Prim.Native.Nat.{◌-◌}
-use lib.ListN.{length, length-set}
-use borrow.Author.Rules.{rules}
+use Rattle.std.proofs.Common.{rules, arith, ◌≡◌, refl, sym, ap, ◌∙◌, length, length-set}
 use Rattle.base.specs.Each.{filled_more, filled_all}
 use Rattle.reply.specs.Rows.{store_of, stored_at, stored_length, unknown_length}
 use Rattle.reply.specs.Rules.{no_reply}
 use Rattle.reply.proofs.rows.unpack_all.Goals as goal
 
--- src/rows.rt:87:5
 pub loop-i-init : goal.loop-i-init
-loop-i-init c = (omega arith, ap length c.unknown-store.ensures ∙ unknown_length, refl)
+loop-i-init c = (ap length c.unknown-store.ensures ∙ unknown_length, refl)
 
--- src/rows.rt:87:5
 pub loop-i-preserved : goal.loop-i-preserved
 loop-i-preserved c =
     let rows = c.args.rows in
@@ -20,17 +14,14 @@ loop-i-preserved c =
     let i = c.loop-i.i in
     let l : length rows ≡ 256 = search rules in
     let n = stored_length rows in
-    let long = c.loop-i.invariant.1 in (
-      omega arith,
+    let long = c.loop-i.invariant.0 in (
       simp length-set long,
-      filled_more store (store_of rows) i c.unpack-reply.result no_reply (omega arith) (omega arith) (c.unpack-reply.ensures ∙ sym (stored_at rows i)) c.loop-i.invariant.2,
+      filled_more store (store_of rows) i c.unpack.result no_reply (omega arith) (omega arith) (c.unpack.ensures ∙ sym (stored_at rows i)) c.loop-i.invariant.1,
     )
 
--- src/rows.rt:82:1
 pub returns : goal.returns
 returns c =
     let rows = c.args.rows in
     let l : length rows ≡ 256 = search rules in
     let n = stored_length rows in
-    let long = c.loop-i.invariant.1 in
-    filled_all c.loop-i.store (store_of rows) c.loop-i.i (omega arith) (omega arith) c.loop-i.invariant.2
+    filled_all c.loop-i.store (store_of rows) c.loop-i.i (omega arith) (omega arith) c.loop-i.invariant.1

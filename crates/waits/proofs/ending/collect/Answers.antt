@@ -1,5 +1,5 @@
 use Rattle.std.specs.Prelude.{◌≡◌, length}
-use mathlib.Core.Path.{ap, ◌∙◌}
+use mathlib.Core.Path.{refl, ap, ◌∙◌}
 use native.Mathlib.Omega.{arith}
 use lib.ListN.{length-set}
 use borrow.Author.Tests.{lt-ltb, le-ltb, not-true, not-false}
@@ -7,16 +7,15 @@ use Rattle.clients.specs.Rules.{places}
 use Rattle.waits.specs.Ending.{collected_in, stranger_collects, idle_collects, early_collects, short_collects, collects}
 use borrow.Author.Rules.{rules}
 use Rattle.waits.proofs.ending.collect.Goals as goal
-use Rattle.waits.proofs.ending.collect.Goals.{Else-at-ge-PLACES}
+use Rattle.waits.proofs.ending.collect.Goals.{In-Some}
 
-whole : (c : Else-at-ge-PLACES) → length c.args.core.clients ≡ places
+whole : (c : In-Some) → length c.args.core.clients ≡ places
 whole c = search rules
 
-pub returns-then-at-ge-PLACES : goal.returns-then-at-ge-PLACES
-returns-then-at-ge-PLACES c =
-    let f = c.find-at in
+pub returns-in_default : goal.returns-in_default
+returns-in_default c =
     let a = c.args in
-    let p = stranger_collects a.replies.now a.marks.now a.core a.number f.result f.ensures c.if-at-ge-PLACES.true a.time a.area.now in
+    let p = stranger_collects a.replies.now a.marks.now a.core a.number _ refl c.in_default.ensures a.time a.area.now in
     record {
       marks_len = search rules;
       result_after = ap (collected_in a.replies.now a.marks.now) c.refuse.ensures ∙ p.0;
@@ -25,9 +24,9 @@ returns-then-at-ge-PLACES c =
 
 pub returns-then-not-wait : goal.returns-then-not-wait
 returns-then-not-wait c =
-    let f = c.find-at in
+    let f = c.in-Some.ensures in
     let a = c.args in
-    let p = idle_collects a.replies.now a.marks.now a.core a.number f.result f.ensures c.if-at-ge-PLACES.false (whole (goal.at.returns-then-not-wait c).Else-at-ge-PLACES) a.time a.area.now (not-true _ c.if-not-wait.true) in
+    let p = idle_collects a.replies.now a.marks.now a.core a.number _ f.0 f.1 (whole (goal.at.returns-then-not-wait c).In-Some) a.time a.area.now (not-true _ c.if-not-wait.true) in
     record {
       marks_len = search rules;
       result_after = ap (collected_in a.replies.now a.marks.now) c.refuse-then-not-wait.ensures ∙ p.0;
@@ -36,9 +35,9 @@ returns-then-not-wait c =
 
 pub returns-then-not-marks-at : goal.returns-then-not-marks-at
 returns-then-not-marks-at c =
-    let f = c.find-at in
+    let f = c.in-Some.ensures in
     let a = c.args in
-    let p = early_collects a.replies.now a.marks.now a.core a.number f.result f.ensures c.if-at-ge-PLACES.false (whole (goal.at.returns-then-not-marks-at c).Else-at-ge-PLACES) a.time a.area.now (not-false _ c.if-not-wait.false) (not-true _ c.if-not-marks-at.true-raw) in
+    let p = early_collects a.replies.now a.marks.now a.core a.number _ f.0 f.1 (whole (goal.at.returns-then-not-marks-at c).In-Some) a.time a.area.now (not-false _ c.if-not-wait.false) (not-true _ c.if-not-marks-at.true-raw) in
     record {
       marks_len = search rules;
       result_after = ap (collected_in a.replies.now a.marks.now) c.refuse-then-not-marks-at.ensures ∙ p.0;
@@ -47,10 +46,10 @@ returns-then-not-marks-at c =
 
 pub returns-then-area-size : goal.returns-then-area-size
 returns-then-area-size c =
-    let f = c.find-at in
+    let f = c.in-Some.ensures in
     let a = c.args in
     let s = lt-ltb _ _ (rw (c.size.ensures, c.unpack-out.ensures) at c.if-area-size.true) in
-    let p = short_collects a.replies.now a.marks.now a.core a.number f.result f.ensures c.if-at-ge-PLACES.false (whole (goal.at.returns-then-area-size c).Else-at-ge-PLACES) a.time a.area.now (not-false _ c.if-not-wait.false) (not-false _ c.if-not-marks-at.false-raw) s in
+    let p = short_collects a.replies.now a.marks.now a.core a.number _ f.0 f.1 (whole (goal.at.returns-then-area-size c).In-Some) a.time a.area.now (not-false _ c.if-not-wait.false) (not-false _ c.if-not-marks-at.false-raw) s in
     record {
       marks_len = search rules;
       result_after = ap (collected_in a.replies.now a.marks.now) c.refuse-then-area-size.ensures ∙ p.0;
@@ -59,11 +58,11 @@ returns-then-area-size c =
 
 pub returns : goal.returns
 returns c =
-    let f = c.find-at in
+    let f = c.in-Some.ensures in
     let a = c.args in
     let s = le-ltb _ _ (rw (c.size.ensures, c.unpack-out.ensures) at c.if-area-size.false) in
     let l : length a.marks.now ≡ places = search rules in
-    let p = collects a.replies.now a.marks.now a.core a.number f.result f.ensures c.if-at-ge-PLACES.false (whole (goal.at.returns c).Else-at-ge-PLACES) a.time a.area.now (not-false _ c.if-not-wait.false) (not-false _ c.if-not-marks-at.false-raw) c.end_wait-served.result c.end_wait-served.ensures (omega arith) s c.elapsed-waited.result c.elapsed-waited.ensures in
+    let p = collects a.replies.now a.marks.now a.core a.number _ f.0 f.1 (whole (goal.at.returns c).In-Some) a.time a.area.now (not-false _ c.if-not-wait.false) (not-false _ c.if-not-marks-at.false-raw) c.end_wait-served.result c.end_wait-served.ensures (omega arith) s c.elapsed-waited.result c.elapsed-waited.ensures in
     record {
       marks_len = simp length-set l;
       result_after = ap (collected_in a.replies.now _) c.hand.ensures ∙ rw c.unpack-out.ensures p.0;
