@@ -148,18 +148,20 @@ pub fn answer_part<const N: usize, W: Write>(
     let mut brought = playing.brought;
     let mut reading = playing.reading;
     let mut at = 0;
+    // A while: each turn uses as many bytes as its line has.
     while at < input.len() {
         let fed = lines::feed(reading, &input[at..], line);
         at += fed.used;
-        let len = base::least(fed.reading.len, line.len());
+        let len = fed.reading.len.min(line.len());
         let taken = tasks::take_line(fed, &line[..len], bytes, out, writer)?;
         reading = taken.reading;
         let mut task = taken.task;
-        let list = taken.list;
-        if tasks::brings(list) {
-            let read = bringing::bring(brought, list, &line[..len], last.core.poller.round);
-            brought = read.brought;
-            task = bringing::if_good(task, read.good);
+        if let Some(list) = taken.list {
+            match bringing::bring(brought, list, &line[..len], last.core.poller.round) {
+                Some(read) => brought = read,
+                // a line whose list is bad is bad
+                None => task = Task::Bad,
+            }
         }
         match task {
             Task::Nothing => {}
@@ -184,8 +186,8 @@ pub fn answer_part<const N: usize, W: Write>(
                 tell(out, pids, rates, response, last, b"");
             }
             Task::Call(asked) => {
-                let cmd = &bytes[..base::least(asked.cmd, bytes.len())];
-                let m = base::least(asked.area, area.len());
+                let cmd = &bytes[..asked.cmd.min(bytes.len())];
+                let m = asked.area.min(area.len());
                 let room = &mut area[..m];
                 let call = asked.call;
                 last = dispatch::call(

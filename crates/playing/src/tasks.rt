@@ -12,7 +12,7 @@ use writing::Text;
 pub struct Taken {
     pub reading: Reading,
     pub task: Task,
-    pub list: List,
+    pub list: Option<List>,
 }
 
 // `Nothing` where no line has ended, or one that has no answer.
@@ -29,7 +29,6 @@ pub enum Task {
 // to carry it.
 #[derive(Clone, Copy)]
 pub enum List {
-    None,
     StartProfiles,
     Profiles,
     Response,
@@ -86,25 +85,18 @@ fn task_of(line: Line) -> Task {
     }
 }
 
-// The list that a line brings.
-fn list_of(line: Line) -> List {
+// The list that a line brings, if it brings one.
+fn list_of(line: Line) -> Option<List> {
     match line {
         Line::Start {
             time: _,
             settings: _,
-        } => List::StartProfiles,
-        Line::Profiles { time: _ } => List::Profiles,
-        Line::Response { time: _ } => List::Response,
-        Line::Connect { time: _ } => List::Session,
-        Line::Result { time: _ } => List::Outcome,
-        _ => List::None,
-    }
-}
-
-pub(crate) fn brings(list: List) -> bool {
-    match list {
-        List::None => false,
-        _ => true,
+        } => Some(List::StartProfiles),
+        Line::Profiles { time: _ } => Some(List::Profiles),
+        Line::Response { time: _ } => Some(List::Response),
+        Line::Connect { time: _ } => Some(List::Session),
+        Line::Result { time: _ } => Some(List::Outcome),
+        _ => None,
     }
 }
 
@@ -113,7 +105,7 @@ fn alone(reading: Reading, task: Task) -> Taken {
     Taken {
         reading,
         task,
-        list: List::None,
+        list: None,
     }
 }
 

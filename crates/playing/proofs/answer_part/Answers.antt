@@ -81,5 +81,5 @@ pub loop-at-preserved : goal.loop-at-preserved
 loop-at-preserved g c =
     let u = used _ _ _ _ _ c.loop-at-test.true c.feed-fed.ensures.value in
     let i = c.loop-at.invariant in
-    let l = length_front c.loop-at.area c.call-last.new.area c.least-m.result c.call-last.auto.area in
+    let l = length_front c.loop-at.area c.call-last.new.area c.min-m.result c.call-last.auto.area in
     (u.1, c.feed-fed.auto.line ∙ i.1, c.take_line.auto.bytes ∙ i.2, l ∙ i.3, c.call-last.ensures.whole)
