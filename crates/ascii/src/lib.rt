@@ -2,40 +2,32 @@
 #![tactic(auto)]
 
 ghost use Rattle.std.specs.Prelude.{◌≡◌};
-ghost use Rattle.ascii.specs.Chars.{between, upper, hex_value, hex_digit};
+ghost use Rattle.ascii.specs.Chars.{between, upper, hex_of, hex_digit};
 
 pub fn is_between(low: u8, b: u8, high: u8) -> bool
     ensures { result ≡ between low b high }
 {
-    if b < low {
-        return false;
-    }
-    b <= high
+    low <= b && b <= high
 }
 
+#[tactic(auto, using(crate::specs::Chars::upper_is))]
 pub fn to_upper(b: u8) -> u8
     ensures { result ≡ upper b }
 {
-    if is_between(b'a', b, b'z') {
-        return b - 32;
-    }
-    b
+    b.to_ascii_uppercase()
 }
 
-// The value of a hex digit in either letter case; 16 for any other byte.
-pub fn hex_value(b: u8) -> u8
-    ensures { result ≡ hex_value b }
+// The value of a hex digit in either letter case.
+#[tactic(auto, using(crate::specs::Chars::hex_decimal, crate::specs::Chars::hex_upper, crate::specs::Chars::hex_lower, crate::specs::Chars::hex_other))]
+pub fn hex_value(b: u8) -> Option<u8>
+    ensures { result ≡ hex_of b }
 {
-    if is_between(b'0', b, b'9') {
-        return b - b'0';
+    match b {
+        b'0'..=b'9' => Some(b - b'0'),
+        b'A'..=b'F' => Some(b - b'A' + 10),
+        b'a'..=b'f' => Some(b - b'a' + 10),
+        _ => None,
     }
-    if is_between(b'A', b, b'F') {
-        return b - b'A' + 10;
-    }
-    if is_between(b'a', b, b'f') {
-        return b - b'a' + 10;
-    }
-    16
 }
 
 // The hex digit of n's last four bits, in upper case.

@@ -9,23 +9,25 @@ ghost use Rattle.base.specs.Write.{over};
 pub fn elapsed(since: u64, now: u64) -> u64
     ensures { result ≡ now - since }
 {
-    if since < now { now - since } else { 0 }
+    now.saturating_sub(since)
 }
 
 // One more, up to the largest count.
+#[tactic(auto, using(crate::specs::Count::more_is))]
 pub fn more(n: u32) -> u32
     ensures { result ≡ more_of n }
 {
-    if n < u32::MAX { n + 1 } else { u32::MAX }
+    n.saturating_add(1)
 }
 
 pub fn least(a: usize, b: usize) -> usize
     ensures { result ≡ min a b }
 {
-    if a < b { a } else { b }
+    a.min(b)
 }
 
 // Writes bytes over the start of others.
+#[tactic(auto, unfolding(crate::specs::Write::over))]
 pub fn copy(from: &[u8], to: &mut [u8])
     requires { length from.now ≤ length to.old }
     ensures { to.new ≡ over to.old 0 from.now }

@@ -6,6 +6,7 @@ ghost use Rattle.std.specs.Prelude.{◌≡◌, []};
 ghost use Rattle.by_value.specs.Parts.{desk_core, link_core, poller_core, polled_in, known_in, core_of};
 ghost use Rattle.desk.specs.Core.{desk_of};
 ghost use Rattle.dispatch.specs.Dispatch.{call_of, area_of, Promised};
+ghost use Rattle.obd2.specs.Answer.{answered_in};
 ghost use Rattle.obd2.specs.Answers.{PromisedStart};
 ghost use Rattle.obd2.specs.Core.{lent, box_of, details_of, answered_of};
 ghost use Rattle.obd2.specs.History.{start_of, step};
@@ -254,7 +255,7 @@ fn answered_of(
     rates: [f32; 256],
     told: Told,
 ) -> Answered
-    ensures { result ≡ answered_of (lent replies marks table slots (held polled known order ranges) pids rates) told }
+    ensures { answered_in result ≡ answered_of (lent replies marks table slots (held polled known order ranges) pids rates) told }
 {
     let state = state_of(
         replies, marks, table, slots, polled, known, order, ranges, told.core,
@@ -270,8 +271,8 @@ fn answered_of(
 
 // The box's start.
 pub fn start(time: u64, settings: Settings, profiles: Profiles) -> Answered
-    ensures value { result ≡ start_of time settings profiles }
-    ensures promised_start { PromisedStart time settings profiles result }
+    ensures value { answered_in result ≡ start_of time settings profiles }
+    ensures promised_start { PromisedStart time settings profiles (answered_in result) }
 {
     let mut replies = [[0u8; ROW]; 256];
     let mut marks = [[false; 256]; PLACES];
@@ -310,9 +311,9 @@ pub fn call(
     cmd: &[u8],
     area: &mut [u8],
 ) -> Answered
-    ensures value { result ≡ step state (call_of time call brought cmd.now area.old) }
+    ensures value { answered_in result ≡ step state (call_of time call brought cmd.now area.old) }
     ensures area_after { area.new ≡ area_of state time call brought cmd.now area.old }
-    ensures promised { Promised state (call_of time call brought cmd.now area.old) result }
+    ensures promised { Promised state (call_of time call brought cmd.now area.old) (answered_in result) }
 {
     let store = state.desk.store;
     let mut replies = reply::rows::pack_all(store);

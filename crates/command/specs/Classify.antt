@@ -1,5 +1,5 @@
 -- What a command's bytes ask for, while connected: document 01, "Commands (desk)", step by step.
-use Rattle.std.specs.Prelude.{Bool, true, false, ◌&&◌, List, [], ◌∷◌, ℕ, suc, ◌+◌, ◌-◌, ◌*◌, ◌%◌, leb, ltb, eqb, length, get_or, take}
+use Rattle.std.specs.Prelude.{Bool, true, false, ◌&&◌, List, [], ◌∷◌, ℕ, suc, ◌+◌, ◌-◌, ◌*◌, ◌%◌, leb, ltb, eqb, length, get_or, take, Option, Some, None}
 use Rattle.ascii.specs.Chars.{upper, hex_value}
 use Rattle.base.specs.Choice.{pick}
 use Rattle.base.specs.Letters.{letter, letters}
@@ -34,6 +34,10 @@ range_texts =
 unfoldable pub index_of : List (List ℕ) → List ℕ → ℕ
 index_of [] cmd = 0
 index_of (t ∷ ts) cmd = pick (same_text cmd t) 0 (suc (index_of ts cmd))
+
+-- The first of the queries that cmd is, if it is one.
+unfoldable pub range_of : List ℕ → Option ℕ
+range_of cmd = pick (ltb (index_of range_texts cmd) 8) (Some (index_of range_texts cmd)) None
 
 -- "fewer than 4 bytes or a start other than 01 and two hex digits, the answer `?`; else the PID"
 unfoldable pub pid_of : List ℕ → Command

@@ -3,7 +3,7 @@
 #![tactic(auto)]
 
 ghost use Rattle.std.specs.Prelude.{◌≡◌};
-ghost use Rattle.command.specs.Classify.{same_text, index_of, range_texts, stripped, pid_of, command_of, values_of};
+ghost use Rattle.command.specs.Classify.{range_of, stripped, pid_of, command_of, values_of};
 
 #[derive(Clone, Copy)]
 pub enum Command {
@@ -19,35 +19,14 @@ const SUPPORTED_PID_QUERIES: [[u8; 4]; 8] = [
     *b"0100", *b"0120", *b"0140", *b"0160", *b"0180", *b"01A0", *b"01C0", *b"01E0",
 ];
 
-fn eq_ignore_ascii_case(cmd: &[u8], query: [u8; 4]) -> bool
-    ensures { result ≡ same_text cmd.now query }
+// Which of the supported-PID queries cmd is.
+fn supported_pids_index(cmd: &[u8]) -> Option<u8>
+    ensures { result ≡ range_of cmd.now }
 {
-    if cmd.len() != 4 {
-        return false;
-    }
-    let mut i = 0;
-    while i < 4 {
-        if ascii::to_upper(cmd[i]) != ascii::to_upper(query[i]) {
-            return false;
-        }
-        i += 1;
-    }
-    true
-}
-
-// Which of the supported-PID queries cmd is; 8 where it is none.
-fn supported_pids_index(cmd: &[u8]) -> u8
-    ensures { result ≡ index_of range_texts cmd.now }
-{
-    let mut i: u8 = 0;
-    while i < 8 {
-        let query = SUPPORTED_PID_QUERIES[i as usize];
-        if eq_ignore_ascii_case(cmd, query) {
-            return i;
-        }
-        i += 1;
-    }
-    8
+    let index = SUPPORTED_PID_QUERIES
+        .iter()
+        .position(|query| cmd.eq_ignore_ascii_case(query))?;
+    Some(index as u8)
 }
 
 // A single digit after the pairs is the client's response count, which decides nothing here.
@@ -64,20 +43,16 @@ fn wire_command_to_pid(cmd: &[u8]) -> Command
     if cmd.len() < 4 {
         return Command::Unknown;
     }
-    if cmd[0] != b'0' {
+    if !cmd.starts_with(b"01") {
         return Command::Unknown;
     }
-    if cmd[1] != b'1' {
+    let Some(high) = ascii::hex_value(cmd[2]) else {
         return Command::Unknown;
-    }
-    let high = ascii::hex_value(cmd[2]);
-    let low = ascii::hex_value(cmd[3]);
-    if high < 16 {
-        if low < 16 {
-            return Command::Pid(high * 16 + low);
-        }
-    }
-    Command::Unknown
+    };
+    let Some(low) = ascii::hex_value(cmd[3]) else {
+        return Command::Unknown;
+    };
+    Command::Pid(high * 16 + low)
 }
 
 pub fn classify(cmd: &[u8]) -> Command
@@ -85,9 +60,8 @@ pub fn classify(cmd: &[u8]) -> Command
     ensures result_value { values_of result ≡ values_of (command_of cmd.now) }
 {
     let normalized = strip_response_count(cmd);
-    let range = supported_pids_index(normalized);
-    if range < 8 {
-        return Command::Range(range);
+    match supported_pids_index(normalized) {
+        Some(range) => Command::Range(range),
+        None => wire_command_to_pid(normalized),
     }
-    wire_command_to_pid(normalized)
 }

@@ -1,5 +1,5 @@
 -- Laws of the definitions of `Pairs`.
-use Rattle.std.specs.Prelude.{Bool, true, false, ◌&&◌, ◌≡◌, refl, ℕ, zero, suc, ◌+◌, ◌-◌, ◌*◌, ◌/◌, ◌%◌, ◌<◌, ◌≤◌, eqb, ltb, take, drop, Err}
+use Rattle.std.specs.Prelude.{Bool, true, false, ◌&&◌, ◌≡◌, refl, ℕ, zero, suc, ◌+◌, ◌-◌, ◌*◌, ◌/◌, ◌%◌, ◌<◌, ◌≤◌, eqb, ltb, max, take, drop, Option, Some, None, Err}
 use mathlib.Core.List.{List, [], ◌∷◌, ◌++◌}
 use Rattle.std.proofs.Math.Path.{ap, sym}
 use Rattle.std.proofs.Common.{◌∙◌, length-drop, drop_of_length-le, drop-cons, take_all, length-take-le}
@@ -7,31 +7,52 @@ use native.Mathlib.Omega.{arith}
 use Rattle.std.proofs.Math.Numerals.{add-one}
 use Rattle.std.proofs.Math.ListN.{length, get_or, set, length-set}
 use Rattle.std.proofs.Math.Seq.{take-suc}
-use borrow.Author.Tests.{lt-ltb, ltb-true, eq-eqb, ne_eqb}
-use Rattle.ascii.specs.Chars.{hex_value, hex_digit}
+use borrow.Author.Tests.{lt-ltb, le-ltb, ltb-true, ltb-false, eq-eqb, ne_eqb}
+use Rattle.ascii.specs.Chars.{hex_value, hex_of, hex_digit, hex_some, hex_none}
 use Rattle.base.specs.Choice.{cases, false_true}
 use Rattle.base.specs.Letters.{letter}
 use Rattle.base.specs.Write.{over, over_none, over_one, over_length, over_over, over_cons}
-use Rattle.hex_text.specs.Pairs.{is_hex, pair_of, hexes, is_pairs, pairs, bytes_of, read_of, plain_of, copy_of, command_of, command_bytes, hex_text, Filled}
+use Rattle.hex_text.specs.Pairs.{pid_of, is_hex, pair_of, hexes, is_pairs, pairs, bytes_of, read_of, plain_of, copy_of, command_of, command_bytes, hex_text, Filled}
 use Rattle.hex_text.specs.declared.Unread.TheVariants as unread
 
 -- The highest of the values so far, and of one more: all are digits if it is one.
-module _ (h v : ℕ) (x : Bool) where
-  pub higher_digit : h < v → ltb h 16 && (ltb v 16 && x) ≡ (ltb v 16 && x)
-  higher_digit k =
-      cases _ (ltb v 16)
-      (λ e. let n = ltb-true v 16 e in rw (e, lt-ltb h 16 (omega arith)))
-      (λ e. rw e (cases _ (ltb h 16) (λ f. rw f) (λ f. rw f)))
-
-  pub same_digit : v ≤ h → ltb h 16 && (ltb v 16 && x) ≡ (ltb h 16 && x)
-  same_digit k =
-      cases _ (ltb h 16)
-      (λ e. let n = ltb-true h 16 e in rw (e, lt-ltb v 16 (omega arith)))
-      (λ e. rw e)
+pub highest_digit : (h v : ℕ) (x : Bool) → ltb h 16 && (ltb v 16 && x) ≡ (ltb (max h v) 16 && x)
+highest_digit h v x =
+    cases _ (ltb h 16)
+    (λ e. let k = ltb-true h 16 e in
+    cases _ (ltb v 16)
+    (λ f. let l = ltb-true v 16 f in rw (e, f, lt-ltb (max h v) 16 (omega arith)))
+    (λ f. let l = ltb-false v 16 f in rw (e, f, le-ltb (max h v) 16 (omega arith))))
+    (λ e. let k = ltb-false h 16 e in rw (e, le-ltb (max h v) 16 (omega arith)))
 
 pub and_true : (b : Bool) → (b && true) ≡ b
 and_true true = refl
 and_true false = refl
+
+-- The cases of a PID.
+module _ (s : List ℕ) where
+  pub pid_length : (length s ≡ 2 → ⊥) → None ≡ pid_of s
+  unfolding pid_of
+  pid_length h = rw (ne_eqb (length s) 2 h)
+
+  module _ (h : length s ≡ 2) where
+    pub pid_first : (r : Option ℕ) → r ≡ hex_of (get_or s 0 0) → r ≡ None → None ≡ pid_of s
+    unfolding pid_of is_hex
+    pid_first r e f = rw (eq-eqb (length s) 2 h, hex_none (get_or s 0 0) r e f)
+
+    module _ (r : Option ℕ) (e : r ≡ hex_of (get_or s 0 0)) (a : ℕ) (f : r ≡ Some a) where
+      pub pid_second : (q : Option ℕ) → q ≡ hex_of (get_or s 1 0) → q ≡ None → None ≡ pid_of s
+      unfolding pid_of is_hex
+      pid_second q g k =
+          let d = hex_some (get_or s 0 0) r e a f in
+          rw (eq-eqb (length s) 2 h, d.0, lt-ltb a 16 d.1, hex_none (get_or s 1 0) q g k)
+
+      pub pid_both : (q : Option ℕ) (b : ℕ) → q ≡ hex_of (get_or s 1 0) → q ≡ Some b → Some (a * 16 + b) ≡ pid_of s
+      unfolding pid_of is_hex pair_of
+      pid_both q b g k =
+          let d = hex_some (get_or s 0 0) r e a f in
+          let l = hex_some (get_or s 1 0) q g b k in
+          rw (eq-eqb (length s) 2 h, d.0, lt-ltb a 16 d.1, l.0, lt-ltb b 16 l.1)
 
 -- A look at the digits from the front: what is left of it at place i.
 module _ (s : List ℕ) (i : ℕ) where

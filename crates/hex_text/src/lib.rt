@@ -2,6 +2,7 @@
 #![tactic(auto)]
 
 ghost use Rattle.std.specs.Prelude.{true, ◌≡◌, ◌/◌, ◌≤◌, length};
+ghost use Rattle.ascii.specs.Chars.{hex_value};
 ghost use Rattle.base.specs.Write.{over};
 ghost use Rattle.text.specs.Put.{put_of, put_end};
 ghost use Rattle.hex_text.specs.Pairs.{pid_of, is_pairs, pairs, bytes_of, read_of, plain_of, copy_of, command_of, command_bytes, turn_of, turned_bytes, command_turn, command_text, hex_text};
@@ -25,14 +26,17 @@ pub fn pid(s: &[u8]) -> Option<u8>
     if s.len() != 2 {
         return None;
     }
-    let high = ascii::hex_value(s[0]);
-    let low = ascii::hex_value(s[1]);
-    if high < 16 {
-        if low < 16 {
-            return Some(high * 16 + low);
-        }
-    }
-    None
+    let high = ascii::hex_value(s[0])?;
+    let low = ascii::hex_value(s[1])?;
+    Some(high * 16 + low)
+}
+
+// The value of a hex digit, 16 for any other byte: a number and no Option, for is_pairs takes the highest of all.
+#[tactic(auto, using(ascii::specs::Chars::hex_or))]
+fn value(b: u8) -> u8
+    ensures { result ≡ hex_value b }
+{
+    ascii::hex_value(b).unwrap_or(16)
 }
 
 // Whether s is hex digits alone, an even number of them. The highest value tells: a loop that leaves at the first other
@@ -44,13 +48,8 @@ pub fn is_pairs(s: &[u8]) -> bool
         return false;
     }
     let mut highest = 0;
-    let mut i = 0;
-    while i < s.len() {
-        let value = ascii::hex_value(s[i]);
-        if highest < value {
-            highest = value;
-        }
-        i += 1;
+    for b in s {
+        highest = highest.max(value(*b));
     }
     highest < 16
 }
@@ -60,13 +59,10 @@ fn read_pairs(s: &[u8], out: &mut [u8])
     requires s_in_bounds { length s.now / 2 ≤ length out.old }
     ensures { out.new ≡ over out.old 0 (pairs s.now) }
 {
-    let n = s.len() / 2;
-    let mut i = 0;
-    while i < n {
-        let high = ascii::hex_value(s[2 * i]);
-        let low = ascii::hex_value(s[2 * i + 1]);
+    for i in 0..s.len() / 2 {
+        let high = value(s[2 * i]);
+        let low = value(s[2 * i + 1]);
         out[i] = high * 16 + low;
-        i += 1;
     }
 }
 

@@ -9,33 +9,21 @@ ghost use Rattle.text.specs.Put.{put_of, put_end};
 pub fn read(s: &[u8], max: u64) -> Option<u64>
     ensures { result ≡ number_of max s.now }
 {
-    if s.len() == 0 {
+    if s.is_empty() {
         return None;
     }
     let mut value: u64 = 0;
-    let mut i = 0;
-    while i < s.len() {
-        if !ascii::is_between(b'0', s[i], b'9') {
+    for b in s {
+        if !ascii::is_between(b'0', *b, b'9') {
             return None;
         }
-        let digit = wide(s[i] - b'0');
+        value = value.checked_mul(10)?.checked_add(u64::from(*b - b'0'))?;
         // what is past max stays past it
-        if max < digit {
+        if max < value {
             return None;
         }
-        if (max - digit) / 10 < value {
-            return None;
-        }
-        value = value * 10 + digit;
-        i += 1;
     }
     Some(value)
-}
-
-fn wide(b: u8) -> u64
-    ensures { result ≡ b }
-{
-    b as u64
 }
 
 // Writes n's digits from the place at on, as `text::put` writes a text.

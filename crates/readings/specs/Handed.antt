@@ -27,7 +27,7 @@ use Rattle.obd2.specs.Keeps.{step_done, accepted_free}
 use Rattle.obd2.specs.Refusals.{cache_rows, rows_of, row_refusal, refusal_of}
 use Rattle.obd2.specs.State.{lines_of}
 use Rattle.obd2.specs.declared.State.{State}
-use Rattle.obd2.specs.declared.Answer.TheVariants.{Accepted}
+use Rattle.obd2.specs.Answer.{Accepted}
 use Rattle.obd2.specs.declared.Said.TheVariants.{Client, Asked, Collected}
 use Rattle.readings.specs.Claim.{deed, Due, nothing, delivery, Figures, Handed, AnsweredBy, CacheAsk, Collects, Delivered, Right}
 use Rattle.readings.specs.Places.{Placed}

@@ -1,8 +1,10 @@
 -- Texts cut at a byte: history-format.md, "Tokens are parted by one space". A comma and a colon part a token
 -- in the same way. Two parting bytes in a row have an empty text between them.
-use Rattle.std.specs.Prelude.{Bool, true, false, ◌&&◌, List, [], ◌∷◌, ◌++◌, ◌≡◌, refl, ℕ, suc, ◌+◌, ◌<◌, ◌≤◌, eqb, length, get_or, take, drop}
-use Rattle.std.proofs.Common.{ap, add-one, take_all, eqb-true}
-use native.Mathlib.Omega.{arith}
+use Rattle.std.specs.Prelude.{Bool, true, false, cond, ◌&&◌, List, [], ◌∷◌, ◌++◌, ◌≡◌, refl, ℕ, suc, ◌+◌, ◌<◌, ◌≤◌, eqb, ltb, nat_eq, length, take, drop, Option, Some, None, unwrap_or}
+use Rattle.std.specs.List.{position_or_len, count_by}
+use Rattle.std.specs.Cmp.Lexicographic.{pointwise}
+use Rattle.std.proofs.Common.{ap, sym, arith, take_all, eqb-true, ltb-false}
+use Rattle.std.proofs.lemmas.List.Recursion.{is_position_or_len, is_count_by}
 use Rattle.std.proofs.Math.ListN.{drop_of_length-le}
 use Rattle.std.proofs.Math.Seq.{drop-cons}
 use Rattle.base.specs.Choice.{pick, cases}
@@ -35,51 +37,32 @@ byte_search b = record { none = refl; turn = λ x xs. refl }
 pub place_le : (b : ℕ) (s : List ℕ) → place_of b s ≤ length s
 place_le b s = search_le (byte_search b) s
 
--- A count from the front: what is left of it at place i.
-abbrev pub Counted : ℕ → List ℕ → ℕ → ℕ → Type 0
-Counted b s i n = times b s ≡ n + times b (drop i s)
+-- The same place, count and test by the words of the library's searches.
+module _ (b : ℕ) where
+  place_is : (s : List ℕ) → place_of b s ≡ position_or_len (λ x. eqb x b) s
+  unfolding place_of
+  place_is s = is_position_or_len (place_of b) (λ x. eqb x b) refl (λ x xs. cases _ (eqb x b) (λ e. rw e (omega arith)) (λ e. rw e (omega arith))) s
 
-module _ (b : ℕ) (s : List ℕ) (i : ℕ) where
-  pub counted_here : (n : ℕ) → i < length s → eqb (get_or s i 0) b ≡ true → Counted b s i n → Counted b s (i + 1) (n + 1)
+  pub place_found : (s : List ℕ) (r : Option ℕ) → r ≡ cond (ltb (position_or_len (λ x. eqb x b) s) (length s)) (Some (position_or_len (λ x. eqb x b) s)) None
+      → unwrap_or r (length s) ≡ place_of b s
+  place_found s r h =
+      let p = place_is s in
+      cases _ (ltb (position_or_len (λ x. eqb x b) s) (length s))
+      (λ e. rw (h, e) (sym p))
+      (λ e. let l = ltb-false (position_or_len (λ x. eqb x b) s) (length s) e in
+      let m = place_le b s in
+      rw (h, e) (omega arith))
+
+  pub times_is : (s : List ℕ) → times b s ≡ count_by (λ x. eqb x b) s
   unfolding times
-  counted_here n h e f = let a = rw (drop-cons s i 0 h, e) at f in rw (add-one i) (omega arith)
+  times_is s = is_count_by (times b) (λ x. eqb x b) refl (λ x xs. cases _ (eqb x b) (λ e. rw e (omega arith)) (λ e. rw e (omega arith))) s
 
-  pub counted_other : (n : ℕ) → i < length s → eqb (get_or s i 0) b ≡ false → Counted b s i n → Counted b s (i + 1) n
-  unfolding times
-  counted_other n h e f = let a = rw (drop-cons s i 0 h, e) at f in rw (add-one i) (omega arith)
-
-  pub counted_end : (n : ℕ) → length s ≤ i → Counted b s i n → n ≡ times b s
-  unfolding times
-  counted_end n h f = let a = rw (drop_of_length-le s h) at f in omega arith
-
--- Two texts of different lengths differ.
-pub same_length : (xs ys : List ℕ) → (length xs ≡ length ys → ⊥) → same_of xs ys ≡ false
+pub same_is : (xs ys : List ℕ) → pointwise nat_eq xs ys ≡ same_of xs ys
 unfolding same_of
-same_length [] [] h = absurd (h refl)
-same_length [] (y ∷ ys) h = refl
-same_length (x ∷ xs) [] h = refl
-same_length (x ∷ xs) (y ∷ ys) h =
-    let r = same_length xs ys (λ e. h (omega arith)) in rw r (cut (eqb x y))
-  where
-    cut : (b : Bool) → b && false ≡ false
-    cut true = refl
-    cut false = refl
-
--- A comparison from the front: what is left of it at place i.
-module _ (xs ys : List ℕ) (i : ℕ) where
-  pub same_next : i < length xs → i < length ys → eqb (get_or xs i 0) (get_or ys i 0) ≡ true
-      → same_of (drop i xs) (drop i ys) ≡ same_of (drop (i + 1) xs) (drop (i + 1) ys)
-  unfolding same_of
-  same_next h k e = rw (drop-cons xs i 0, drop-cons ys i 0, e, add-one)
-
-  pub same_stop : i < length xs → i < length ys → eqb (get_or xs i 0) (get_or ys i 0) ≡ false
-      → same_of (drop i xs) (drop i ys) ≡ false
-  unfolding same_of
-  same_stop h k e = rw (drop-cons xs i 0, drop-cons ys i 0, e)
-
-  pub same_end : length xs ≤ i → length ys ≤ i → same_of (drop i xs) (drop i ys) ≡ true
-  unfolding same_of
-  same_end h k = rw (drop_of_length-le xs h, drop_of_length-le ys k)
+same_is [] [] = refl
+same_is [] (y ∷ ys) = refl
+same_is (x ∷ xs) [] = refl
+same_is (x ∷ xs) (y ∷ ys) = rw (same_is xs ys)
 
 -- The head has no b in it, and a text is its head, the b and its tail; all of it where there is no b.
 pub head_none : (b : ℕ) (s : List ℕ) → times b (head_of b s) ≡ 0

@@ -10,14 +10,7 @@ ghost use Rattle.text.specs.Put.{put_of, put_end};
 pub fn until(s: &[u8], b: u8) -> usize
     ensures { result ≡ place_of b s.now }
 {
-    let mut place = 0;
-    while place < s.len() {
-        if s[place] == b {
-            return place;
-        }
-        place += 1;
-    }
-    place
+    s.iter().position(|x| *x == b).unwrap_or(s.len())
 }
 
 // What stands before the first b: all of s where there is none.
@@ -44,32 +37,14 @@ pub fn tail(s: &[u8], b: u8) -> &[u8]
 pub fn count(s: &[u8], b: u8) -> usize
     ensures { result ≡ times b s.now }
 {
-    let mut n = 0;
-    let mut i = 0;
-    while i < s.len() {
-        if s[i] == b {
-            n += 1;
-        }
-        i += 1;
-    }
-    n
+    s.iter().filter(|x| **x == b).count()
 }
 
 // Whether s is the word, byte for byte.
 pub fn is(s: &[u8], word: &[u8]) -> bool
     ensures { result ≡ same_of s.now word.now }
 {
-    if s.len() != word.len() {
-        return false;
-    }
-    let mut i = 0;
-    while i < s.len() {
-        if s[i] != word[i] {
-            return false;
-        }
-        i += 1;
-    }
-    true
+    s == word
 }
 
 // Writes s from the place at on, and answers the place behind it; where it has no room, nothing is written

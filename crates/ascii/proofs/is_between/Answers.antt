@@ -1,12 +1,13 @@
 -- `ascii::is_between` meets its contract.
+use Rattle.std.proofs.Common.{le-leb}
+use Rattle.std.proofs.lemmas.Bool.{lt-leb}
 use Rattle.ascii.specs.Chars.{between}
-use borrow.Author.Tests.{le-leb, lt-leb}
 use Rattle.ascii.proofs.is_between.Goals as goal
 
-pub returns-then-b-low : goal.returns-then-b-low
+pub returns-then-low-b : goal.returns-then-low-b
 unfolding between
-returns-then-b-low c = rw (lt-leb _ _ c.if-b-low.true)
+returns-then-low-b c = rw (le-leb _ _ c.if-low-b.true)
 
-pub returns : goal.returns
+pub returns-else-low-b : goal.returns-else-low-b
 unfolding between
-returns c = rw (le-leb _ _ c.if-b-low.false)
+returns-else-low-b c = rw (lt-leb _ _ c.if-low-b.false)

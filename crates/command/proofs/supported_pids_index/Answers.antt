@@ -1,28 +1,22 @@
--- `command::supported_pids_index` meets its contract. The invariant: what the search still has to find, from place i on.
-use Rattle.base.specs.Search.{sought_here, sought_next, sought_end}
-use Rattle.command.specs.Laws.{text_search}
-use Rattle.command.specs.Classify.{range_texts}
-use native.Mathlib.Omega.{arith}
-use Prim.Native.Nat.{◌-◌}
-use mathlib.Core.List.{[]}
-use mathlib.Core.Path.{◌≡◌, sym, ◌∙◌}
+-- `command::supported_pids_index` meets its contract: what `position` answers.
+use Rattle.std.proofs.Common.{rules, tests, sym, ◌∙◌, ◌≡◌}
+use Rattle.std.specs.Str.{str_eq_ignore_ascii_case}
+use Rattle.std.proofs.lemmas.Iterator.{YieldsList-from_slice}
+use Rattle.std.proofs.lemmas.Iterator.Search.{position_from_yields_List}
+use Rattle.command.specs.Classify.{range_texts, range_of}
+use Rattle.command.specs.Laws.{range_found}
 use Rattle.command.proofs.supported_pids_index.Goals as goal
+use Rattle.command.proofs.supported_pids_index.Goals.{After-position}
 
-pub loop-i-init : goal.loop-i-init
-loop-i-init c = (omega arith, omega arith)
-
-pub returns-then-eq_ignore_ascii_case : goal.returns-then-eq_ignore_ascii_case
+found : (c : After-position) → c.position.result ≡ range_of c.args.cmd.now
 unfolding range_texts
-returns-then-eq_ignore_ascii_case c =
-    sought_here (text_search _) range_texts c.loop-i.i [] (omega arith) (sym c.eq_ignore_ascii_case.ensures ∙ c.if-eq_ignore_ascii_case.true) c.loop-i.invariant.1
+found c =
+    range_found c.args.cmd.now c.position.result
+    (position_from_yields_List (str_eq_ignore_ascii_case c.args.cmd.now) _ _ _ c.position.ensures.ran (YieldsList-from_slice range_texts (cc)) (λ x b q k. search (rules, tests)))
 
-pub loop-i-preserved : goal.loop-i-preserved
-unfolding range_texts
-loop-i-preserved c =
-    (omega arith, sought_next (text_search _) range_texts c.loop-i.i [] (omega arith) (sym c.eq_ignore_ascii_case.ensures ∙ c.if-eq_ignore_ascii_case.false) c.loop-i.invariant.1)
+pub returns-in_err-index : goal.returns-in_err-index
+returns-in_err-index c =
+    c.from_residual.ensures ∙ sym c.in_err-index.was ∙ found (goal.at.returns-in_err-index c).After-position
 
 pub returns : goal.returns
-unfolding range_texts
-returns c =
-    let e : c.loop-i.i ≡ 8 = omega arith in
-    sym e ∙ sought_end (text_search _) range_texts c.loop-i.i (omega arith) c.loop-i.invariant.1
+returns c = sym c.in_ok-index.was ∙ found (goal.at.returns c).After-position

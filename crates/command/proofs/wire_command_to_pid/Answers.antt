@@ -1,32 +1,33 @@
 -- `command::wire_command_to_pid` meets its contract: each return rewrites with the tests that led there.
-use Rattle.command.specs.Classify.{pid_of}
-use borrow.Author.Tests.{eq-eqb, ne_eqb, le-leb, lt-leb, lt-ltb, le-ltb}
+use Rattle.std.proofs.Common.{arith, sym, ◌∙◌, le-leb, lt-ltb}
+use Rattle.std.proofs.lemmas.Bool.{lt-leb}
+use Rattle.ascii.specs.Chars.{hex_some, hex_none}
+use Rattle.command.specs.Laws.{pid_short, pid_begins, pid_high, pid_low, pid_both}
 use Rattle.command.proofs.wire_command_to_pid.Goals as goal
 
 pub returns-then-cmd-lt4 : goal.returns-then-cmd-lt4
-unfolding pid_of
-returns-then-cmd-lt4 c = rw (lt-leb _ _ c.if-cmd-lt4.true)
+returns-then-cmd-lt4 c = pid_short _ c.if-cmd-lt4.true
 
-pub returns-then-cmd-ne48 : goal.returns-then-cmd-ne48
-unfolding pid_of
-returns-then-cmd-ne48 c = rw (le-leb _ _ c.if-cmd-lt4.false, ne_eqb _ _ c.if-cmd-ne48.true)
+pub returns-then-not-starts_with : goal.returns-then-not-starts_with
+returns-then-not-starts_with c = pid_begins _ c.if-cmd-lt4.false _ c.starts_with.ensures.value c.if-not-starts_with.true
 
-pub returns-then-cmd-ne49 : goal.returns-then-cmd-ne49
-unfolding pid_of
-returns-then-cmd-ne49 c =
-    rw (le-leb _ _ c.if-cmd-lt4.false, eq-eqb _ _ c.if-cmd-ne48.false, ne_eqb _ _ c.if-cmd-ne49.true)
+pub returns-in_default : goal.returns-in_default
+returns-in_default c =
+    pid_high _ c.if-cmd-lt4.false _ c.starts_with.ensures.value c.if-not-starts_with.false _ c.hex_value.ensures c.in_default.is
 
-pub returns-then-low-lt16 : goal.returns-then-low-lt16
-unfolding pid_of
-returns-then-low-lt16 c =
-    rw (le-leb _ _ c.if-cmd-lt4.false, eq-eqb _ _ c.if-cmd-ne48.false, eq-eqb _ _ c.if-cmd-ne49.false, ← c.hex_value-low.ensures, ← c.hex_value-high.ensures, lt-ltb _ _ c.if-high-lt16.true, lt-ltb _ _ c.if-low-lt16.true)
+pub returns-in_default-hex_value : goal.returns-in_default-hex_value
+returns-in_default-hex_value c =
+    pid_low _ c.if-cmd-lt4.false _ c.starts_with.ensures.value c.if-not-starts_with.false _ c.hex_value.ensures _ c.in-Some.is _ c.hex_value-2.ensures c.in_default-hex_value.is
 
-pub returns-else-low-lt16 : goal.returns-else-low-lt16
-unfolding pid_of
-returns-else-low-lt16 c =
-    rw (le-leb _ _ c.if-cmd-lt4.false, eq-eqb _ _ c.if-cmd-ne48.false, eq-eqb _ _ c.if-cmd-ne49.false, ← c.hex_value-low.ensures, ← c.hex_value-high.ensures, lt-ltb _ _ c.if-high-lt16.true, le-ltb _ _ c.if-low-lt16.false)
+pub overflow_mul-result : goal.overflow_mul-result
+overflow_mul-result c = let h = hex_some _ _ c.hex_value.ensures _ c.in-Some.is in omega arith
 
-pub returns-else-high-lt16 : goal.returns-else-high-lt16
-unfolding pid_of
-returns-else-high-lt16 c =
-    rw (le-leb _ _ c.if-cmd-lt4.false, eq-eqb _ _ c.if-cmd-ne48.false, eq-eqb _ _ c.if-cmd-ne49.false, ← c.hex_value-high.ensures, le-ltb _ _ c.if-high-lt16.false)
+pub overflow_add-result : goal.overflow_add-result
+overflow_add-result c =
+    let h = hex_some _ _ c.hex_value.ensures _ c.in-Some.is in
+    let l = hex_some _ _ c.hex_value-2.ensures _ c.in-Some-hex_value.is in
+    omega arith
+
+pub returns : goal.returns
+returns c =
+    pid_both _ c.if-cmd-lt4.false _ c.starts_with.ensures.value c.if-not-starts_with.false _ c.hex_value.ensures _ c.in-Some.is _ _ c.hex_value-2.ensures c.in-Some-hex_value.is

@@ -1,31 +1,28 @@
--- `hex::pid` meets its contract.
-use Rattle.hex_text.specs.Pairs.{pid_of, is_hex, pair_of}
-use borrow.Author.Tests.{eq-eqb, ne_eqb, lt-ltb, le-ltb}
+-- `hex_text::pid` meets its contract.
+use Rattle.std.proofs.Common.{arith, ◌∙◌}
+use Rattle.ascii.specs.Chars.{hex_some}
+use Rattle.hex_text.specs.Laws.{pid_length, pid_first, pid_second, pid_both}
 use Rattle.hex_text.proofs.pid.Goals as goal
 
 pub returns-then-s-ne2 : goal.returns-then-s-ne2
-unfolding pid_of
-returns-then-s-ne2 c = rw (ne_eqb _ _ c.if-s-ne2.true)
+returns-then-s-ne2 c = pid_length _ c.if-s-ne2.true
 
-pub returns-then-low-lt16 : goal.returns-then-low-lt16
-unfolding pid_of is_hex pair_of
-returns-then-low-lt16 c =
-    let h = c.hex_value-high.ensures in
-    let l = c.hex_value-low.ensures in
-    let k = eq-eqb _ _ c.if-s-ne2.false in
-    rw (k, h, l, lt-ltb _ _ (rw h at c.if-high-lt16.true), lt-ltb _ _ (rw l at c.if-low-lt16.true))
+pub returns-in_err-high : goal.returns-in_err-high
+returns-in_err-high c = c.from_residual.ensures ∙ pid_first _ c.if-s-ne2.false _ c.hex_value.ensures c.in_err-high.was
 
-pub returns-else-low-lt16 : goal.returns-else-low-lt16
-unfolding pid_of is_hex pair_of
-returns-else-low-lt16 c =
-    let h = c.hex_value-high.ensures in
-    let l = c.hex_value-low.ensures in
-    let k = eq-eqb _ _ c.if-s-ne2.false in
-    rw (k, lt-ltb _ _ (rw h at c.if-high-lt16.true), le-ltb _ _ (rw l at c.if-low-lt16.false))
+pub returns-in_err-low : goal.returns-in_err-low
+returns-in_err-low c =
+    c.from_residual-in_err-low.ensures
+    ∙ pid_second _ c.if-s-ne2.false _ c.hex_value.ensures _ c.in_ok-high.was _ c.hex_value-2.ensures c.in_err-low.was
 
-pub returns-else-high-lt16 : goal.returns-else-high-lt16
-unfolding pid_of is_hex pair_of
-returns-else-high-lt16 c =
-    let h = c.hex_value-high.ensures in
-    let k = eq-eqb _ _ c.if-s-ne2.false in
-    rw (k, le-ltb _ _ (rw h at c.if-high-lt16.false))
+pub overflow_mul-result : goal.overflow_mul-result
+overflow_mul-result c = let h = hex_some _ _ c.hex_value.ensures _ c.in_ok-high.was in omega arith
+
+pub overflow_add-result : goal.overflow_add-result
+overflow_add-result c =
+    let h = hex_some _ _ c.hex_value.ensures _ c.in_ok-high.was in
+    let l = hex_some _ _ c.hex_value-2.ensures _ c.in_ok-low.was in
+    omega arith
+
+pub returns : goal.returns
+returns c = pid_both _ c.if-s-ne2.false _ c.hex_value.ensures _ c.in_ok-high.was _ _ c.hex_value-2.ensures c.in_ok-low.was

@@ -1,29 +1,25 @@
--- `hex::read_pairs` meets its contract. The invariant: the first i bytes are read.
-use lib.ListN.{length-set}
-use lib.Seq.{take_all}
+-- `hex_text::read_pairs` meets its contract. The invariant: the first i bytes are read.
+use Rattle.std.proofs.Common.{arith, ◌*◌, ◌+◌, sym, ap, ◌∙◌, take_all}
 use Rattle.hex_text.specs.Laws.{pairs_digit, pairs_length, pairs_at, over_next}
 use Rattle.hex_text.specs.Pairs.{pairs, pair_of}
 use Rattle.base.specs.Write.{over, over_none}
-use Prim.Native.Nat.{◌-◌, ◌*◌, ◌+◌}
-use mathlib.Core.Path.{sym, ap, ◌∙◌}
-use native.Mathlib.Omega.{arith}
 use Rattle.hex_text.proofs.read_pairs.Goals as goal
 
 pub loop-i-init : goal.loop-i-init
-loop-i-init c = (omega arith, omega arith, omega arith, sym (over_none _ 0))
+loop-i-init c = sym (over_none _ 0)
 
 pub overflow_mul-out : goal.overflow_mul-out
 overflow_mul-out c =
     let h = pairs_digit c.args.s.now (2 * c.loop-i.i) (omega arith) c.requires.s_value in
-    let e = c.hex_value-high.ensures in
+    let e = c.value-high.ensures in
     omega arith
 
 pub overflow_add-out : goal.overflow_add-out
 overflow_add-out c =
     let h = pairs_digit c.args.s.now (2 * c.loop-i.i) (omega arith) c.requires.s_value in
     let l = pairs_digit c.args.s.now (2 * c.loop-i.i + 1) (omega arith) c.requires.s_value in
-    let e = c.hex_value-high.ensures in
-    let f = c.hex_value-low.ensures in
+    let e = c.value-high.ensures in
+    let f = c.value-low.ensures in
     omega arith
 
 pub loop-i-preserved : goal.loop-i-preserved
@@ -31,14 +27,10 @@ unfolding pair_of
 loop-i-preserved c =
     let n = pairs_length c.args.s.now in
     let e = over_next c.args.out.now (pairs c.args.s.now) c.loop-i.i (omega arith) (omega arith) in
-    let p = pairs_at c.args.s.now c.loop-i.i (omega arith) in (
-      omega arith,
-      omega arith,
-      simp length-set c.loop-i.invariant.2,
-      rw (c.hex_value-high.ensures, c.hex_value-low.ensures, c.loop-i.invariant.3) (rw p at e),
-    )
+    let p = pairs_at c.args.s.now c.loop-i.i (omega arith) in
+    rw (c.value-high.ensures, c.value-low.ensures, c.loop-i.invariant) (rw p at e)
 
 pub returns : goal.returns
 returns c =
     let n = pairs_length c.args.s.now in
-    c.loop-i.invariant.3 ∙ ap (over c.args.out.now 0) (take_all c.loop-i.i (pairs c.args.s.now) (omega arith))
+    c.loop-i.invariant ∙ ap (over c.args.out.now 0) (take_all c.loop-i.i (pairs c.args.s.now) (omega arith))

@@ -1,41 +1,43 @@
 -- `numeral::read` meets its contract. The invariant: the answer is that of what is left, and no value is past max.
+use Rattle.std.proofs.Common.{arith, sym, ◌∙◌, ◌≡◌, ◌+◌, ◌-◌, ◌*◌, get_or, eqb-true}
+use Rattle.std.proofs.lemmas.Bool.{eqb-false}
 use Rattle.ascii.specs.Chars.{between_low}
-use borrow.Author.Tests.{not-true, not-false}
 use Rattle.numeral.specs.Laws.{number_none, number_some, number_other, number_next, number_past, number_end}
-use Prim.Native.Nat.{◌-◌}
-use mathlib.Core.Path.{sym, ◌∙◌}
-use native.Mathlib.Omega.{arith}
 use Rattle.numeral.proofs.read.Goals as goal
 
-pub returns-then-s-eq0 : goal.returns-then-s-eq0
-returns-then-s-eq0 c = sym (number_none _ _ c.if-s-eq0.true)
+pub returns-then-is_empty : goal.returns-then-is_empty
+returns-then-is_empty c = sym (number_none _ _ (eqb-true _ _ (sym c.if-is_empty.ensures)))
 
-pub loop-i-init : goal.loop-i-init
-loop-i-init c = (omega arith, omega arith, number_some _ _ c.if-s-eq0.false)
+pub loop-b-init : goal.loop-b-init
+loop-b-init c = (omega arith, number_some _ _ (eqb-false _ _ (sym c.if-is_empty.ensures)))
 
 pub returns-then-not-is_between : goal.returns-then-not-is_between
 returns-then-not-is_between c =
-    sym (c.loop-i.invariant.2 ∙ number_other _ _ _ c.loop-i.i (omega arith) (sym c.is_between.ensures ∙ not-true _ c.if-not-is_between.true-raw))
+    sym (c.loop-b.invariant.1 ∙ number_other _ _ _ c.loop-b.b-index (omega arith) (sym c.if-not-is_between.ensures))
 
-pub overflow_sub-s : goal.overflow_sub-s
-overflow_sub-s c = between_low _ _ _ (sym c.is_between.ensures ∙ not-false _ c.if-not-is_between.false-raw)
+pub overflow_sub-b : goal.overflow_sub-b
+overflow_sub-b c = between_low _ _ _ (sym c.if-not-is_between.ensures)
 
-pub returns-then-max-digit : goal.returns-then-max-digit
-returns-then-max-digit c =
-    let e = c.wide-digit.ensures in
-    sym (c.loop-i.invariant.2
-    ∙ number_past _ _ _ c.loop-i.i (omega arith) (omega arith) (sym c.is_between.ensures ∙ not-false _ c.if-not-is_between.false-raw))
+pub returns-in_err-checked_mul : goal.returns-in_err-checked_mul
+returns-in_err-checked_mul c =
+    let e = c.in_err-checked_mul.ensures in
+    c.from_residual.ensures
+    ∙ sym (c.loop-b.invariant.1 ∙ number_past _ _ _ c.loop-b.b-index (omega arith) (omega arith) (sym c.if-not-is_between.ensures))
 
-pub returns-then-max-digit-2 : goal.returns-then-max-digit-2
-returns-then-max-digit-2 c =
-    let e = c.wide-digit.ensures in
-    sym (c.loop-i.invariant.2
-    ∙ number_past _ _ _ c.loop-i.i (omega arith) (omega arith) (sym c.is_between.ensures ∙ not-false _ c.if-not-is_between.false-raw))
+pub returns-in_err-value : goal.returns-in_err-value
+returns-in_err-value c =
+    let e = c.in_err-value.ensures in
+    c.from_residual-in_err-value.ensures
+    ∙ sym (c.loop-b.invariant.1 ∙ number_past _ _ _ c.loop-b.b-index (omega arith) (omega arith) (sym c.if-not-is_between.ensures))
 
-pub loop-i-preserved : goal.loop-i-preserved
-loop-i-preserved c =
-    let t = sym c.is_between.ensures ∙ not-false _ c.if-not-is_between.false-raw in
-    (omega arith, omega arith, rw c.wide-digit.ensures (c.loop-i.invariant.2 ∙ number_next _ _ _ c.loop-i.i (omega arith) t))
+pub returns-then-max-value : goal.returns-then-max-value
+returns-then-max-value c =
+    sym (c.loop-b.invariant.1 ∙ number_past _ _ _ c.loop-b.b-index (omega arith) (omega arith) (sym c.if-not-is_between.ensures))
+
+pub loop-b-preserved : goal.loop-b-preserved
+loop-b-preserved c =
+    let v : c.in_ok-value.value ≡ c.loop-b.value * 10 + (get_or c.args.s.now c.loop-b.b-index 0 - 48) = omega arith in
+    (omega arith, rw v (c.loop-b.invariant.1 ∙ number_next _ _ _ c.loop-b.b-index (omega arith) (sym c.if-not-is_between.ensures)))
 
 pub returns : goal.returns
-returns c = sym (c.loop-i.invariant.2 ∙ number_end _ _ _ c.loop-i.i (omega arith) (omega arith))
+returns c = sym (c.loop-b.invariant.1 ∙ number_end _ _ _ c.loop-b.b-index (omega arith) (omega arith))
