@@ -5,7 +5,7 @@ use Rattle.std.specs.Prelude.{Option, Some, None}
 use Rattle.std.proofs.Math.Path.{refl}
 use borrow.Author.Tests.{lt-ltb, le-ltb, eq-eqb, ne_eqb}
 use Rattle.base.specs.Choice.{pick}
-use Rattle.reply.specs.declared.RangeReply.{RangeReply}
+use Rattle.reply.specs.declared.Reply.{Reply}
 use Rattle.link.specs.Rules.{no_ranges}
 use Rattle.rounds.specs.declared.Learnt.{Learnt}
 use Rattle.history_items.specs.Items.{given, items_of}
@@ -19,17 +19,17 @@ unfoldable pub no_learnt : List Learnt
 no_learnt = replicate 6 (record { ecu = 0; known = false })
 
 -- RANGE.., eight of them
-unfoldable pub range_onto : RangesRead → RangeReply → RangesRead
+unfoldable pub range_onto : RangesRead → Option Reply → RangesRead
 range_onto x r = record { ranges = pick (ltb x.count 8) (set x.ranges x.count r) x.ranges; count = x.count + 1 }
 
-abbrev pub eight : RangesRead → Option (List RangeReply)
+abbrev pub eight : RangesRead → Option (List (Option Reply))
 eight x = pick (eqb x.count 8) (Some x.ranges) None
 
-unfoldable pub ranges_from : RangesRead → List (List ℕ) → Option (List RangeReply)
+unfoldable pub ranges_from : RangesRead → List (List ℕ) → Option (List (Option Reply))
 ranges_from x [] = eight x
 ranges_from x (t ∷ ts) = given (range_of t) (λ r. ranges_from (range_onto x r) ts)
 
-abbrev pub ranges_of : List (List ℕ) → Option (List RangeReply)
+abbrev pub ranges_of : List (List ℕ) → Option (List (Option Reply))
 ranges_of ts = ranges_from (record { ranges = no_ranges; count = 0 }) ts
 
 -- LEARNT..
@@ -44,7 +44,7 @@ abbrev pub learnts_of : List (List ℕ) → Option LearntRead
 learnts_of ts = learnts_from (record { learnt = no_learnt; count = 0 }) ts
 
 -- What is put down where there is a place, and where there is none.
-module _ (x : RangesRead) (r : RangeReply) where
+module _ (x : RangesRead) (r : Option Reply) where
   pub range_put : x.count < 8 → record { ranges = set x.ranges x.count r; count = x.count + 1 } ≡ range_onto x r
   unfolding range_onto
   range_put h = rw (lt-ltb x.count 8 h)
