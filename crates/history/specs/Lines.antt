@@ -8,6 +8,7 @@ use Rattle.numeral.specs.Decimal.{number_of}
 use Rattle.config.specs.Blank.{no_profiles}
 use Rattle.obd2.specs.declared.call.Brought.{Brought}
 use Rattle.history_lists.specs.Lists.{no_response}
+use Rattle.history_items.specs.Items.{given}
 use Rattle.history_items.specs.Tokens.{first_of, rest_of, none_of}
 use Rattle.history_words.specs.Words.{word_of, show'}
 use Rattle.history_calls.specs.Plain.{Tokens}
@@ -31,11 +32,11 @@ last = 18446744073709551615
 -- A line's tokens: its word, and the others. `room` is the number of the lent bytes.
 unfoldable pub line_of : ℕ → Tokens → Option Line
 line_of room [] = None
-line_of room (w ∷ ts) = option_map_or (λ t. timed_line room t (rest_of ts) (word_of w)) (number_of last (first_of ts)) (untimed_of w ts)
+line_of room (w ∷ ts) = option_map_or (λ t. given (word_of w) (timed_line room t (rest_of ts))) (number_of last (first_of ts)) (untimed_of w ts)
 
 unfoldable pub lent_of : List ℕ → Tokens → List ℕ
 lent_of d [] = d
-lent_of d (w ∷ ts) = option_map_or (λ t. timed_bytes d (rest_of ts) (word_of w)) (number_of last (first_of ts)) d
+lent_of d (w ∷ ts) = option_map_or (λ t. option_map_or (timed_bytes d (rest_of ts)) (word_of w) d) (number_of last (first_of ts)) d
 
 -- The tokens behind a line's word and its time.
 unfoldable pub behind_time : Tokens → Tokens

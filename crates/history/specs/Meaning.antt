@@ -100,10 +100,9 @@ module _ (due : Bool) (asked room : ℕ) (b : Brought) (t : ℕ) (ts : Tokens) w
   timed_of word.Settings = parsed b (set_of t ts)
   timed_of word.Connect = connect_of b t ts
   timed_of word.Start = start_of b t ts
-  timed_of word.Other = bare b
 
 -- A line's tokens: its word, and the others.
 unfoldable pub parsed_of : Bool → ℕ → ℕ → Brought → Tokens → Parsed
 parsed_of due asked room b [] = bare b
 parsed_of due asked room b (w ∷ ts) =
-    option_map_or (λ t. timed_of due asked room b t (rest_of ts) (word_of w)) (number_of last (first_of ts)) (parsed b (untimed_of w ts))
+    option_map_or (λ t. or_bare b (option_map (timed_of due asked room b t (rest_of ts)) (word_of w))) (number_of last (first_of ts)) (parsed b (untimed_of w ts))

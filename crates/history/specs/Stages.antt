@@ -112,7 +112,6 @@ module _ (due : Bool) (asked : ℕ) (b : Brought) (qs : Tokens) where
       timed_read room word.Settings = given_told (settings_of (first_of ts)) _ (λ s. alone_told (call.SetSettings s) (rest_of ts))
       timed_read room word.Connect = connect_read (flag_of (first_of ts))
       timed_read room word.Start = start_read (settings_of (first_of ts))
-      timed_read room word.Other = refl
 
 module _ (due : Bool) (asked room : ℕ) (b : Brought) where
   untimed_read : (qs ts : Tokens) (w : List ℕ) → read_of due asked b qs (untimed_of w ts) ≡ parsed b (untimed_of w ts)
@@ -120,15 +119,16 @@ module _ (due : Bool) (asked room : ℕ) (b : Brought) where
   untimed_read qs ts w = cases _ (same_of w show') (λ e. rw e (cases _ (none_of ts) (λ f. rw f) (λ f. rw f))) (λ e. rw e)
 
   -- behind its word, with the time or without
-  line_read : (w : List ℕ) (ts : Tokens) (n : Option ℕ)
-      → read_of due asked b (w ∷ ts) (option_map_or (λ t. timed_line room t (rest_of ts) (word_of w)) n (untimed_of w ts))
-      ≡ option_map_or (λ t. timed_of due asked room b t (rest_of ts) (word_of w)) n (parsed b (untimed_of w ts))
-  unfolding behind_time rest_of
-  line_read w ts (Some t) = timed_read due asked b (w ∷ ts) t (rest_of ts) refl room (word_of w)
-  line_read w ts None = untimed_read (w ∷ ts) ts w
+  line_read : (w : List ℕ) (ts : Tokens) (k : Option Word) (n : Option ℕ)
+      → read_of due asked b (w ∷ ts) (option_map_or (λ t. given k (timed_line room t (rest_of ts))) n (untimed_of w ts))
+      ≡ option_map_or (λ t. or_bare b (option_map (timed_of due asked room b t (rest_of ts)) k)) n (parsed b (untimed_of w ts))
+  unfolding behind_time rest_of read_of
+  line_read w ts (Some k) (Some t) = timed_read due asked b (w ∷ ts) t (rest_of ts) refl room k
+  line_read w ts None (Some t) = refl
+  line_read w ts k None = untimed_read (w ∷ ts) ts w
 
   -- What a line means is what its list makes of what it was told to be.
   pub two_stages : (ts : Tokens) → read_of due asked b ts (line_of room ts) ≡ parsed_of due asked room b ts
   unfolding line_of parsed_of read_of
   two_stages [] = refl
-  two_stages (w ∷ ts) = line_read w ts (number_of last (first_of ts))
+  two_stages (w ∷ ts) = line_read w ts (word_of w) (number_of last (first_of ts))

@@ -49,7 +49,7 @@ pub fn parse(line: &[u8], bytes: &mut [u8]) -> Option<Line>
     let (word, rest) = line.split_at(text::until(line, b' '));
     match numeral::read(rest::first(rest), u64::MAX) {
         Some(time) => history_calls::timed(
-            history_words::of(word),
+            history_words::of(word)?,
             time,
             rest::behind(rest),
             bytes,

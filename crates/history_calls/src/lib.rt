@@ -64,6 +64,5 @@ pub fn timed(word: Word, time: u64, rest: &[u8], bytes: &mut [u8]) -> Option<Lin
         Word::Settings => plain::set_settings(time, rest),
         Word::Connect => bringing::connect(time, rest),
         Word::Start => bringing::start(time, rest),
-        Word::Other => None,
     }
 }

@@ -25,6 +25,7 @@ pub struct LearntRead {
     pub count: usize,
 }
 
+#[tactic(auto, unfolding(crate::specs::Lists::no_learnt))]
 pub fn nothing_learnt() -> [Learnt; 6]
     ensures { result ≡ no_learnt }
 {
@@ -35,6 +36,7 @@ pub fn nothing_learnt() -> [Learnt; 6]
     [none; 6]
 }
 
+#[tactic(auto, unfolding(crate::specs::Lists::range_onto))]
 fn add_range(mut read: RangesRead, r: Option<Reply>) -> RangesRead
     requires { read.count < 18446744073709551615 }
     ensures { result ≡ range_onto read r }
@@ -48,6 +50,7 @@ fn add_range(mut read: RangesRead, r: Option<Reply>) -> RangesRead
     read
 }
 
+#[tactic(auto, unfolding(crate::specs::Lists::learnt_onto))]
 fn add_learnt(mut read: LearntRead, l: Learnt) -> LearntRead
     requires { read.count < 18446744073709551615 }
     ensures { result ≡ learnt_onto read l }

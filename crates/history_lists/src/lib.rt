@@ -10,6 +10,7 @@ use config::{Profile, Profiles};
 use history_items::Items;
 use reply::{MAX_PIDS, Reply, Response};
 
+#[tactic(auto, unfolding(crate::specs::Lists::no_response))]
 pub fn no_response() -> Response
     ensures { result ≡ no_response }
 {
@@ -21,6 +22,7 @@ pub fn no_response() -> Response
     }
 }
 
+#[tactic(auto, unfolding(crate::specs::Lists::profile_onto))]
 fn add_profile(mut profiles: Profiles, p: Profile) -> Profiles
     ensures { result ≡ profile_onto profiles p }
 {
@@ -34,6 +36,7 @@ fn add_profile(mut profiles: Profiles, p: Profile) -> Profiles
     profiles
 }
 
+#[tactic(auto, unfolding(crate::specs::Lists::reply_onto))]
 fn add_reply(mut response: Response, pid: u8, r: Reply) -> Response
     ensures { result ≡ reply_onto response pid r }
 {

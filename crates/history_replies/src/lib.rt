@@ -73,13 +73,15 @@ fn fill(bytes: [u8; MAX_BYTES], at: usize, s: &[u8]) -> Option<Filled>
 }
 
 // A length as a reply holds it.
+#[tactic(auto, unfolding(crate::specs::Replies::short_of))]
 fn short(length: usize) -> u8
     ensures { result ≡ short_of length }
 {
-    if length < 255 { length as u8 } else { 255 }
+    length.min(255) as u8
 }
 
 // One line more, of this length.
+#[tactic(auto, unfolding(crate::specs::Replies::count_line))]
 fn count_line(mut reply: Reply, length: usize) -> Reply
     ensures { result ≡ count_line reply length }
 {

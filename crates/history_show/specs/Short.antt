@@ -1,14 +1,13 @@
 -- 8,192 bytes have room for the line of `show`.
 use Rattle.std.specs.Prelude.{◌≡◌, ℕ, zero, suc, ◌+◌, ◌*◌, ◌≤◌, min, Bool, true, false, List, [], ◌∷◌, ◌++◌, length}
-use Rattle.std.specs.Prelude.{refl}
+use Rattle.std.specs.Prelude.{Option, Some, None, refl}
 use Rattle.std.proofs.Common.{arith, length-append, length-take}
-use Rattle.base.specs.Choice.{pick, cases}
+use Rattle.base.specs.Choice.{pick}
 use Rattle.base.specs.Write.{over}
 use Rattle.control.specs.declared.DongleMessage.{DongleMessage}
 use Rattle.control.specs.declared.DongleMessage.TheVariants.{SetPidPriority, RemovePid}
 use Rattle.control_line.specs.Ring.{from}
 use Rattle.control_line.specs.declared.ControlLine.{ControlLine}
-use Rattle.desk.specs.declared.Revs.{Revs}
 use Rattle.manager.specs.Rows.{manager_table}
 use Rattle.obd2.specs.Core.{Lent, lent, box_of}
 use Rattle.poller.specs.Core.{with_polled}
@@ -70,9 +69,10 @@ line_short l =
     let ms = from l.slots l.head n in
     omega (arith, each_short message_text 3 message_short ms false, from_length l.slots n l.head)
 
-revs_short : (r : Revs) → length (revs_text r) ≤ 21
+revs_short : (r : Option ℕ) → length (revs_text r) ≤ 21
 unfolding revs_text
-revs_short r = cases _ r.known (λ e. rw e (omega (arith, decimal_short r.value))) (λ e. rw e (omega arith))
+revs_short None = omega arith
+revs_short (Some v) = omega (arith, decimal_short v)
 
 -- A table has 256 places.
 pub show_short : (s : State) → length s.manager.table ≤ 256 → length (show_text s) ≤ 8192

@@ -13,7 +13,6 @@ ghost use Rattle.history_show.specs.Short.{with_shown};
 use config::PidPriority;
 use control::DongleMessage;
 use control_line::places::{Ends, PLACES};
-use desk::Revs;
 use obd2::rest::Core;
 use pid_list::PidList;
 use pid_table::PidInfo;
@@ -137,14 +136,13 @@ fn line<const N: usize>(out: &mut Text<N>, slots: &[[u8; 2]; PLACES], ends: Ends
 }
 
 // The stored revs, `-` where none are known.
-fn revs<const N: usize>(out: &mut Text<N>, revs: Revs)
+fn revs<const N: usize>(out: &mut Text<N>, revs: Option<u32>)
     ensures { Added N out.old (revs_text revs) out.new }
 {
     out.byte(b' ');
-    if revs.known {
-        out.number(revs.value as u64);
-    } else {
-        out.byte(b'-');
+    match revs {
+        Some(value) => out.number(value as u64),
+        None => out.byte(b'-'),
     }
 }
 

@@ -37,7 +37,7 @@ fn keep(r: Reading, s: &[u8], line: &mut [u8]) -> Reading
     ensures value { result ≡ kept_of line.old r s.now }
     ensures line_after { line.new ≡ kept_bytes line.old r s.now }
 {
-    let at = base::least(r.len, line.len());
+    let at = r.len.min(line.len());
     let room = line.len() - at;
     if room < s.len() {
         base::copy(&s[..room], &mut line[at..]);
@@ -78,7 +78,7 @@ pub fn feed(r: Reading, input: &[u8], line: &mut [u8]) -> Fed
 pub fn answers(line: &[u8]) -> bool
     ensures { result ≡ answers_of line.now }
 {
-    if line.len() == 0 {
+    if line.is_empty() {
         return false;
     }
     line[0] != b'#'

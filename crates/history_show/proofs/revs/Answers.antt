@@ -3,10 +3,10 @@ use Rattle.writing.specs.Added.{added_then}
 use Rattle.history_show.specs.Texts.{revs_text}
 use Rattle.history_show.proofs.revs.Goals as goal
 
-pub returns-then-revs : goal.returns-then-revs
+pub returns-in-Some : goal.returns-in-Some
 unfolding revs_text
-returns-then-revs g c = rw c.if-revs.true (added_then c.byte.ensures c.number.ensures)
+returns-in-Some g c = rw c.in-Some.is (added_then c.byte.ensures c.number.ensures)
 
-pub returns-else-revs : goal.returns-else-revs
+pub returns-in-None : goal.returns-in-None
 unfolding revs_text
-returns-else-revs g c = rw c.if-revs.false (added_then c.byte.ensures c.byte-else-revs.ensures)
+returns-in-None g c = rw c.in-None.is (added_then c.byte.ensures c.byte-in-None.ensures)

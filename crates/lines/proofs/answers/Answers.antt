@@ -1,10 +1,11 @@
 -- `lines::answers` meets its contract.
 use Rattle.lines.specs.Laws.{answers_none, answers_some}
-use mathlib.Core.Path.{sym}
+use Rattle.std.proofs.Common.{sym, eqb-true}
+use Rattle.std.proofs.lemmas.Bool.{eqb-false}
 use Rattle.lines.proofs.answers.Goals as goal
 
-pub returns-then-line-eq0 : goal.returns-then-line-eq0
-returns-then-line-eq0 c = sym (answers_none _ c.if-line-eq0.true)
+pub returns-then-is_empty : goal.returns-then-is_empty
+returns-then-is_empty c = sym (answers_none _ (eqb-true _ _ (sym c.if-is_empty.ensures)))
 
 pub returns : goal.returns
-returns c = sym (answers_some _ c.if-line-eq0.false)
+returns c = sym (answers_some _ (eqb-false _ _ (sym c.if-is_empty.ensures)))

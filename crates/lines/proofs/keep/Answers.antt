@@ -16,13 +16,13 @@ copy-requires c = simp (length-take, length-drop) (omega arith)
 pub returns-then-room-s : goal.returns-then-room-s
 returns-then-room-s c =
     let s = c.args in record {
-      value = sym (kept_part s.line.now s.r s.s.now _ c.least-at.ensures (omega arith));
-      line_after = over_lent s.line.now c.least-at.result _ _ (omega arith) c.copy.ensures ∙ sym (bytes_part s.line.now s.r s.s.now _ c.least-at.ensures);
+      value = sym (kept_part s.line.now s.r s.s.now _ c.min-at.ensures (omega arith));
+      line_after = over_lent s.line.now c.min-at.result _ _ (omega arith) c.copy.ensures ∙ sym (bytes_part s.line.now s.r s.s.now _ c.min-at.ensures);
     }
 
 pub returns : goal.returns
 returns c =
     let s = c.args in record {
-      value = sym (kept_all s.line.now s.r s.s.now _ c.least-at.ensures (omega arith));
-      line_after = over_lent s.line.now c.least-at.result _ _ (omega arith) c.copy-2.ensures ∙ sym (bytes_all s.line.now s.r s.s.now _ c.least-at.ensures (omega arith));
+      value = sym (kept_all s.line.now s.r s.s.now _ c.min-at.ensures (omega arith));
+      line_after = over_lent s.line.now c.min-at.result _ _ (omega arith) c.copy-2.ensures ∙ sym (bytes_all s.line.now s.r s.s.now _ c.min-at.ensures (omega arith));
     }
