@@ -9,8 +9,8 @@ ghost use Rattle.cache.specs.Asking.{not_told, told, asked_in};
 use super::{Answer, RANGES, Step};
 use clients::PLACES;
 use desk::rest::Core;
-use reply::rows::ROW;
 use reply::Reply;
+use reply::rows::ROW;
 
 // The refusal is document 01's number, 0 where the ask is accepted. The lines' lengths are of the reply that stands at
 // the start of the lent area, none where the answer has no reply.

@@ -177,4 +177,3 @@ module _ (r : Reply) (n : ℕ) where
   pub line_past : 8 ≤ r.lines → record { lines = more_of r.lines; lengths = r.lengths; bytes = r.bytes } ≡ count_line r n
   unfolding count_line
   line_past h = rw (le-ltb r.lines 8 h)
-
