@@ -33,10 +33,6 @@ module _ (low b high : ℕ) where
   unfolding between
   between_low e = cases _ (leb low b) (λ t. leb-true low b t) (λ t. false_true (rw t at e))
 
-  between_high : between low b high ≡ true → b ≤ high
-  unfolding between
-  between_high e = cases _ (leb low b) (λ t. leb-true b high (rw t at e)) (λ t. false_true (rw t at e))
-
   within : low ≤ b → b ≤ high → between low b high ≡ true
   unfolding between
   within h k = rw (le-leb low b h, le-leb b high k)
@@ -47,43 +43,6 @@ module _ (low b high : ℕ) where
       cases _ (leb low b)
       (λ t. cases _ (leb b high) (λ u. absurd (h (leb-true low b t) (leb-true b high u))) (λ u. rw (t, u)))
       (λ t. rw t)
-
--- The value of each kind of digit, and of a byte that is none.
-module _ (b : ℕ) where
-  pub hex_decimal : 48 ≤ b → b ≤ 57 → Some (b - 48) ≡ hex_of b
-  unfolding hex_of hex_value
-  hex_decimal h k = rw (within 48 b 57 h k, lt-ltb (b - 48) 16 (omega arith))
-
-  pub hex_upper : 65 ≤ b → b ≤ 70 → Some (b - 65 + 10) ≡ hex_of b
-  unfolding hex_of hex_value
-  hex_upper h k = rw (outside 48 b 57 (λ l m. omega arith), within 65 b 70 h k, lt-ltb (b - 65 + 10) 16 (omega arith))
-
-  pub hex_lower : 97 ≤ b → b ≤ 102 → Some (b - 97 + 10) ≡ hex_of b
-  unfolding hex_of hex_value
-  hex_lower h k = rw (outside 48 b 57 (λ l m. omega arith), outside 65 b 70 (λ l m. omega arith), within 97 b 102 h k, lt-ltb (b - 97 + 10) 16 (omega arith))
-
-  pub hex_other : (48 ≤ b → b ≤ 57 → ⊥) → (65 ≤ b → b ≤ 70 → ⊥) → (97 ≤ b → b ≤ 102 → ⊥) → None ≡ hex_of b
-  unfolding hex_of hex_value
-  hex_other h k l = rw (outside 48 b 57 h, outside 65 b 70 k, outside 97 b 102 l)
-
-hex_most : (b : ℕ) → hex_value b ≤ 16
-unfolding hex_value
-hex_most b =
-    cases _ (between 48 b 57)
-    (λ e. let h = between_high 48 b 57 e in rw e (omega arith))
-    (λ e. cases _ (between 65 b 70)
-    (λ f. let h = between_high 65 b 70 f in rw (e, f) (omega arith))
-    (λ f. cases _ (between 97 b 102)
-    (λ g. let h = between_high 97 b 102 g in rw (e, f, g) (omega arith))
-    (λ g. rw (e, f, g) (omega arith))))
-
--- The value, 16 where there is none.
-pub hex_or : (b : ℕ) (r : Option ℕ) → r ≡ hex_of b → unwrap_or r 16 ≡ hex_value b
-unfolding hex_of
-hex_or b r h =
-    cases _ (ltb (hex_value b) 16)
-    (λ e. rw (h, e))
-    (λ e. let m = hex_most b in let l = ltb-false (hex_value b) 16 e in rw (h, e) (omega arith))
 
 -- A letter in upper case, as the library has it.
 pub upper_is : (b : ℕ) → to_ascii_uppercase b ≡ upper b

@@ -2,7 +2,7 @@
 // back". What is written is the library `capture_stream`; no more is held here than one record.
 #![tactic(auto)]
 
-ghost use Rattle.std.specs.Prelude.{◌&&◌, ◌≡◌, ◌+◌, ◌*◌, ◌≤◌, ltb, length};
+ghost use Rattle.std.specs.Prelude.{◌+◌, ◌*◌, ◌≤◌, length};
 ghost use Rattle.capture_stream.specs.Machine.{owed_for, most_text, part_size, longest_record};
 
 use capture_stream::Reading;
@@ -16,12 +16,13 @@ const INPUT: usize = capture_stream::PART;
 // The room in which a part is used whole.
 const OUTPUT: usize = capture_stream::MOST_OWED + capture_stream::MOST_TEXT * INPUT;
 
-// The reading after a part of the input, whether it goes on, and whether the input has ended.
+// What becomes of a part of the input: the reading goes on, the input has ended, or nothing can be written any more, or counted in 64
+// bits.
 #[derive(Clone, Copy)]
-struct Turn {
-    reading: Reading,
-    more: bool,
-    ended: bool,
+enum Turn {
+    More(Reading),
+    Ended,
+    Stuck,
 }
 
 // Writes what is put together, and tells whether it could.
@@ -31,14 +32,7 @@ fn flush<const N: usize, W: Write>(out: &mut Text<N>, writer: &mut W) -> bool {
     wrote
 }
 
-// Whether it was written, and some of the input used.
-fn went_on(wrote: bool, used: usize) -> bool
-    ensures { result ≡ wrote && ltb 0 used }
-{
-    if wrote { used > 0 } else { false }
-}
-
-// Feeds a part of the input. It goes on unless nothing can be written any more, or counted in 64 bits.
+// Feeds a part of the input.
 fn feed_part<const N: usize, W: Write>(
     reading: Reading,
     input: &[u8],
@@ -47,19 +41,16 @@ fn feed_part<const N: usize, W: Write>(
     writer: &mut W,
 ) -> Turn {
     let mut current = reading;
-    let mut more = true;
     let mut at = 0;
-    while more && at < input.len() {
+    while at < input.len() {
         let fed = capture_stream::feed(current, hold, &input[at..], out);
-        more = went_on(flush(out, writer), fed.used);
+        if !flush(out, writer) || fed.used == 0 {
+            return Turn::Stuck;
+        }
         current = fed.reading;
         at += fed.used;
     }
-    Turn {
-        reading: current,
-        more,
-        ended: false,
-    }
+    Turn::More(current)
 }
 
 fn read_part<const N: usize, R: Read, W: Write>(
@@ -72,24 +63,12 @@ fn read_part<const N: usize, R: Read, W: Write>(
     let mut input = [0u8; INPUT];
     let n = reader.read(&mut input)?;
     if n == 0 {
-        return Ok(Turn {
-            reading,
-            more: false,
-            ended: true,
-        });
+        return Ok(Turn::Ended);
     }
     Ok(feed_part(reading, &input[..n], hold, out, writer))
 }
 
-// The last line, where the input has ended: behind a line that could not be written there is none.
-fn finish<const N: usize, W: Write>(turn: Turn, out: &mut Text<N>, writer: &mut W) {
-    if turn.ended {
-        capture_stream::finish(turn.reading, out);
-        flush(out, writer);
-    }
-}
-
-// A proved loop has to end, and nothing says that an input does: the turns are counted down from a number that no run uses up. The
+// A proved loop has to end, and nothing says that an input does: the turns are fewer than a number that no run uses up. The
 // memory is what `fed_output` of crates/capture_stream/specs/Used.antt asks for.
 fn run<const N: usize, R: Read, W: Write>(
     hold: &mut [u8],
@@ -101,15 +80,17 @@ fn run<const N: usize, R: Read, W: Write>(
     requires part_size_in_bounds { owed_for longest_record + most_text * part_size ≤ N }
 {
     let mut reading = capture_stream::start();
-    let mut turns = u64::MAX;
-    while turns > 0 {
-        let turn = read_part(reading, hold, out, reader, writer)?;
-        reading = turn.reading;
-        if !turn.more {
-            finish(turn, out, writer);
-            return Ok(());
+    for _ in 0..u64::MAX {
+        match read_part(reading, hold, out, reader, writer)? {
+            Turn::More(after) => reading = after,
+            Turn::Ended => {
+                capture_stream::finish(reading, out);
+                flush(out, writer);
+                return Ok(());
+            }
+            // behind a line that could not be written there is no last one
+            Turn::Stuck => return Ok(()),
         }
-        turns -= 1;
     }
     Ok(())
 }

@@ -1,5 +1,5 @@
 -- What the manager has counted is what is read: its events, the end of a call, and the report of a maintenance.
-use Rattle.std.specs.Prelude.{true, false, ◌&&◌, List, [], ◌∷◌, ◌≡◌, refl, ℕ, ◌+◌, ◌-◌, ◌*◌, ◌<◌, ◌≤◌, eqb, ltb}
+use Rattle.std.specs.Prelude.{None, Option, Some, true, false, ◌&&◌, List, [], ◌∷◌, ◌≡◌, refl, ℕ, ◌+◌, ◌-◌, ◌*◌, ◌<◌, ◌≤◌, eqb, ltb}
 use Rattle.std.proofs.Math.Path.{ap}
 use Rattle.std.proofs.Common.{sym, ◌∙◌, eq-eqb, leb-true, leb-false}
 use native.Mathlib.Omega.{arith}
@@ -17,8 +17,6 @@ use Rattle.manager.specs.declared.Manager.{Manager}
 use Rattle.passes.specs.Laws.{through_length}
 use Rattle.passes.specs.Sweep.{through, upkeep}
 use Rattle.passes.specs.declared.Terms.{Terms}
-use Rattle.pid_table.specs.declared.WaitDuration.{WaitDuration}
-use Rattle.pid_table.specs.declared.WaitDuration.TheVariants.{Hit, Miss}
 use Rattle.rate.specs.Bound.{rate_within}
 use Rattle.rate.specs.Hits.{hit_rate_none, hit_rate_within}
 use Rattle.rate.specs.Rate.{f32, most_counted, hit_rate_of}
@@ -38,21 +36,21 @@ use Rattle.figures.specs.Counts.{entry, Counts, Counted, registered_table, upkee
 
 -- The metrics of a Consumed that is not refused.
 module _ (x : CacheMetrics) (h : x.hits + x.misses < most_counted) where
-  noted_hits : (w : WaitDuration) → (noted_of x w).hits ≡ x.hits + hit w
+  noted_hits : (w : Option ℕ) → (noted_of x w).hits ≡ x.hits + hit w
   unfolding noted_of
-  noted_hits Hit = omega (arith, more_is x.hits)
-  noted_hits (Miss wait) = omega arith
+  noted_hits None = omega (arith, more_is x.hits)
+  noted_hits (Some wait) = omega arith
 
-  noted_misses : (w : WaitDuration) → (noted_of x w).misses ≡ x.misses + miss w
+  noted_misses : (w : Option ℕ) → (noted_of x w).misses ≡ x.misses + miss w
   unfolding noted_of
-  noted_misses Hit = omega arith
-  noted_misses (Miss wait) = omega (arith, more_is x.misses)
+  noted_misses None = omega arith
+  noted_misses (Some wait) = omega (arith, more_is x.misses)
 
-one_each : (w : WaitDuration) → hit w + miss w ≡ 1
-one_each Hit = refl
-one_each (Miss wait) = refl
+one_each : (w : Option ℕ) → hit w + miss w ≡ 1
+one_each None = refl
+one_each (Some wait) = refl
 
-not_full : (x : CacheMetrics) (w : WaitDuration) → refused_of x w ≡ false → x.hits + x.misses < most_counted
+not_full : (x : CacheMetrics) (w : Option ℕ) → refused_of x w ≡ false → x.hits + x.misses < most_counted
 unfolding refused_of full_of
 not_full x w e = cases _ (overlong_of w) (λ a. false_true (sym (rw a at e))) (λ a. leb-false 16777215 (x.hits + x.misses) (rw a at e))
 
@@ -85,7 +83,7 @@ module _ (m : Manager) (k : Tally) (g : Counted m k) (t : Terms) where
 
 -- A Consumed, of which the manager that is read knows whether its PID is known.
 module _ (r : Reading) (k : Tally) (g : Counted r.manager k) (t : Terms) where
-  pub consumed_counted : (p : ℕ) (w : WaitDuration) → refused_of r.manager.metrics w ≡ false → Counted (noting r.manager t (event.Consumed p w)) (with_one r p w k)
+  pub consumed_counted : (p : ℕ) (w : Option ℕ) → refused_of r.manager.metrics w ≡ false → Counted (noting r.manager t (event.Consumed p w)) (with_one r p w k)
   unfolding noting
   consumed_counted p w e =
       let m = r.manager in

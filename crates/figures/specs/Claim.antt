@@ -2,15 +2,13 @@
 --
 -- What a report counts is read from the start, the accepted calls' arguments and the reports before it: which PIDs are known is as
 -- agreement's claim reads the manager, and each report starts the counts anew.
-use Rattle.std.specs.Prelude.{Bool, true, ◌&&◌, List, [], ◌∷◌, ◌≡◌, ℕ, ◌+◌, ◌-◌, ◌*◌, ◌<◌, ◌≤◌, eqb, ltb, leb, get_or}
+use Rattle.std.specs.Prelude.{None, Option, Some, Bool, true, ◌&&◌, List, [], ◌∷◌, ◌≡◌, ℕ, ◌+◌, ◌-◌, ◌*◌, ◌<◌, ◌≤◌, eqb, ltb, leb, get_or}
 use Rattle.agreement.specs.Claim.{Reading, read_call, read_start, box_after, read_after}
 use Rattle.base.specs.Choice.{pick, one}
 use Rattle.base.specs.Times.{times}
 use Rattle.config.specs.declared.Profiles.{Profiles}
 use Rattle.config.specs.declared.Settings.{Settings}
 use Rattle.pid_table.specs.Entry.{nobody}
-use Rattle.pid_table.specs.declared.WaitDuration.{WaitDuration}
-use Rattle.pid_table.specs.declared.WaitDuration.TheVariants.{Hit, Miss}
 use Rattle.rate.specs.Rate.{f32, most_counted}
 use Rattle.rate.specs.Within.{Within}
 use Rattle.report.specs.Rates.{ratings}
@@ -34,15 +32,15 @@ abbrev pub known : Reading → ℕ → Bool
 known r p = (get_or r.manager.table p nobody).tracked
 
 -- "Consumed. Known PIDs only are marked and counted"; "Hits and misses count unknown PIDs too."
-abbrev pub hit : WaitDuration → ℕ
-hit Hit = 1
-hit (Miss wait) = 0
+abbrev pub hit : Option ℕ → ℕ
+hit None = 1
+hit (Some wait) = 0
 
-abbrev pub miss : WaitDuration → ℕ
-miss Hit = 0
-miss (Miss wait) = 1
+abbrev pub miss : Option ℕ → ℕ
+miss None = 0
+miss (Some wait) = 1
 
-abbrev pub with_one : Reading → ℕ → WaitDuration → Tally → Tally
+abbrev pub with_one : Reading → ℕ → Option ℕ → Tally → Tally
 with_one r p w k = record {
   since = k.since;
   counted = λ q. k.counted q + one (eqb p q && known r p);

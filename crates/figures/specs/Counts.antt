@@ -1,5 +1,5 @@
 -- What the manager's table counts: one law an event, one a pass.
-use Rattle.std.specs.Prelude.{Bool, true, false, ◌&&◌, List, [], ◌∷◌, ◌≡◌, ℕ, ◌+◌, ◌<◌, ◌≤◌, eqb, ltb, length, get_or, set, replicate}
+use Rattle.std.specs.Prelude.{None, Option, Some, Bool, true, false, ◌&&◌, List, [], ◌∷◌, ◌≡◌, ℕ, ◌+◌, ◌<◌, ◌≤◌, eqb, ltb, length, get_or, set, replicate}
 use Rattle.std.proofs.Math.Path.{refl, sym}
 use Rattle.std.proofs.Common.{ap, ◌∙◌, get_or-set_same, get_or-set_other}
 use native.Mathlib.Omega.{arith}
@@ -11,6 +11,7 @@ use Rattle.base.specs.Count.{most, more_is}
 use Rattle.config.specs.InForce.{in_force}
 use Rattle.manager.specs.Calls.{registering, maintenance, entry_set, waiting_at, consumed_at, no_table}
 use Rattle.manager.specs.declared.Manager.{Manager}
+use Rattle.config.specs.declared.PidPriority.{PidPriority}
 use Rattle.passes.specs.Laws.{through_at, through_length}
 use Rattle.passes.specs.Sweep.{entry_after, through, upkeep, entry_through}
 use Rattle.passes.specs.Wishes.{wish_of}
@@ -19,9 +20,6 @@ use Rattle.passes.specs.declared.Pass.TheVariants.{Register, Demote, Remove, Cle
 use Rattle.passes.specs.declared.Terms.{Terms}
 use Rattle.pid_table.specs.Entry.{nobody, waiting_of, promotes_of, consumed_of, registered_of, demotes_of, demoted_of, idle_of, removed_of, cleared_of}
 use Rattle.pid_table.specs.declared.PidInfo.{PidInfo}
-use Rattle.pid_table.specs.declared.WaitDuration.{WaitDuration}
-use Rattle.pid_table.specs.declared.Wish.{Wish}
-use Rattle.pid_table.specs.declared.Wish.TheVariants.{Unwanted, Wanted}
 use Rattle.rate.specs.Rate.{most_counted}
 use Rattle.figures.specs.Claim.{Tally}
 
@@ -55,10 +53,10 @@ module _ (x : PidInfo) (b : Blank x) where
       (λ e. rw e (record { count = refl; blank = λ f. false_true (sym f) }))
       (λ e. rw e (record { count = sym (b e); blank = λ f. refl }))
 
-  pub registered_keeps : (w : Wish) (now : ℕ) → Keeps x (registered_of w now x)
+  pub registered_keeps : (w : Option PidPriority) (now : ℕ) → Keeps x (registered_of w now x)
   unfolding registered_of
-  registered_keeps Unwanted now = record { count = refl; blank = b }
-  registered_keeps (Wanted p) now = cases _ x.tracked
+  registered_keeps None now = record { count = refl; blank = b }
+  registered_keeps (Some p) now = cases _ x.tracked
       (λ e. rw e (record { count = refl; blank = λ f. false_true (sym f) }))
       (λ e. rw e (record { count = sym (b e); blank = λ f. refl }))
 
@@ -155,7 +153,7 @@ module _ (t : Terms) (p : ℕ) (xs : List PidInfo) (q : ℕ) (b : Blank (entry x
     pub count : y.count ≡ (entry xs q).count + one (eqb p q && (entry xs p).tracked)
     pub blank : Blank y
 
-  pub consumed_table : (w : WaitDuration) → (entry xs q).count < most → Counts (entry (entry_set (consumed_at t w) p xs) q)
+  pub consumed_table : (w : Option ℕ) → (entry xs q).count < most → Counts (entry (entry_set (consumed_at t w) p xs) q)
   consumed_table w few = entry_set_law (consumed_at t w) p xs q Counts
       (λ e. let z = eqb-true p q e in
       let c = consumed_count (entry xs q) b (promotes_of t.settings.mode t.settings.promotion w) t.now few in

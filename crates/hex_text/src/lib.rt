@@ -2,7 +2,6 @@
 #![tactic(auto)]
 
 ghost use Rattle.std.specs.Prelude.{true, ◌≡◌, ◌/◌, ◌≤◌, length};
-ghost use Rattle.ascii.specs.Chars.{hex_value};
 ghost use Rattle.base.specs.Write.{over};
 ghost use Rattle.text.specs.Put.{put_of, put_end};
 ghost use Rattle.hex_text.specs.Pairs.{pid_of, is_pairs, pairs, bytes_of, read_of, plain_of, copy_of, command_of, command_bytes, turn_of, turned_bytes, command_turn, command_text, hex_text};
@@ -31,14 +30,6 @@ pub fn pid(s: &[u8]) -> Option<u8>
     Some(high * 16 + low)
 }
 
-// The value of a hex digit, 16 for any other byte: a number and no Option, for is_pairs takes the highest of all.
-#[tactic(auto, using(ascii::specs::Chars::hex_or))]
-fn value(b: u8) -> u8
-    ensures { result ≡ hex_value b }
-{
-    ascii::hex_value(b).unwrap_or(16)
-}
-
 // Whether s is hex digits alone, an even number of them. The highest value tells: a loop that leaves at the first other
 // byte is a branch for each digit, and slow.
 pub fn is_pairs(s: &[u8]) -> bool
@@ -49,7 +40,10 @@ pub fn is_pairs(s: &[u8]) -> bool
     }
     let mut highest = 0;
     for b in s {
-        highest = highest.max(value(*b));
+        let v = ascii::digit_value(*b);
+        if highest < v {
+            highest = v;
+        }
     }
     highest < 16
 }
@@ -60,8 +54,8 @@ fn read_pairs(s: &[u8], out: &mut [u8])
     ensures { out.new ≡ over out.old 0 (pairs s.now) }
 {
     for i in 0..s.len() / 2 {
-        let high = value(s[2 * i]);
-        let low = value(s[2 * i + 1]);
+        let high = ascii::digit_value(s[2 * i]);
+        let low = ascii::digit_value(s[2 * i + 1]);
         out[i] = high * 16 + low;
     }
 }

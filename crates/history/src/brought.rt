@@ -7,8 +7,8 @@ ghost use Rattle.history_lists.specs.Lists.{profiles_of, response_of};
 ghost use Rattle.history_calls.specs.Bringing.{session_of, outcome_of};
 ghost use Rattle.history.specs.Lines.{behind_time};
 
-use history_calls::bringing;
 use config::Profiles;
+use history_calls::bringing;
 use history_items::rest;
 use link::Session;
 use reply::Response;

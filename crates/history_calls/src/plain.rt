@@ -1,4 +1,5 @@
-// The calls that bring no list: what stands behind their time.
+// The calls that bring no list: what stands behind their time. The time and the rest are handed on by themselves: each function
+// would take a struct of both apart, which is no plainer.
 ghost use Rattle.std.specs.Prelude.{◌≡◌, length};
 ghost use Rattle.history_items.specs.Items.{items_of};
 ghost use Rattle.history_calls.specs.Plain.{alone_of, leave_of, give_up_of, waiting_of, set_of, consumed_of, collect_of, ask_of, ask_bytes};
@@ -35,7 +36,7 @@ pub fn leave(time: u64, rest: &[u8]) -> Option<Line>
     alone(time, Call::Leave(client), rest::behind(rest))
 }
 
-// CLIENT
+// CLIENT. As `leave` but for the call: one function that is handed the call would be no plainer.
 #[tactic(auto, unfolding(crate::specs::Plain::give_up_of))]
 pub fn give_up(time: u64, rest: &[u8]) -> Option<Line>
     ensures { result ≡ give_up_of time (items_of 32 rest.now) }

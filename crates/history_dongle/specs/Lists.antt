@@ -1,14 +1,11 @@
 -- Lists of tokens that tell of the dongle: eight RANGEs, LEARNT... What has no place is left out and counted. A bad
 -- token makes the list bad.
-use Rattle.std.specs.Prelude.{Bool, true, false, List, [], ◌∷◌, ◌≡◌, ℕ, ◌+◌, ◌-◌, ◌<◌, ◌≤◌, eqb, ltb, length, take, drop, set, replicate}
-use Rattle.std.specs.Prelude.{Option, Some, None}
-use Rattle.std.proofs.Math.Path.{refl}
-use borrow.Author.Tests.{lt-ltb, le-ltb, eq-eqb, ne_eqb}
+use Rattle.std.specs.Prelude.{false, List, [], ◌∷◌, ℕ, ◌+◌, eqb, ltb, set, replicate, Option, Some, None}
 use Rattle.base.specs.Choice.{pick}
 use Rattle.reply.specs.declared.Reply.{Reply}
 use Rattle.link.specs.Rules.{no_ranges}
 use Rattle.rounds.specs.declared.Learnt.{Learnt}
-use Rattle.history_items.specs.Items.{given, items_of}
+use Rattle.history_items.specs.Items.{given}
 use Rattle.history_replies.specs.Replies.{range_of}
 use Rattle.history_session.specs.Session.{learnt_of}
 use Rattle.history_dongle.specs.declared.RangesRead.{RangesRead}
@@ -42,30 +39,3 @@ learnts_from x (t ∷ ts) = given (learnt_of t) (λ l. learnts_from (learnt_onto
 
 abbrev pub learnts_of : List (List ℕ) → Option LearntRead
 learnts_of ts = learnts_from (record { learnt = no_learnt; count = 0 }) ts
-
--- What is put down where there is a place, and where there is none.
-module _ (x : RangesRead) (r : Option Reply) where
-  pub range_put : x.count < 8 → record { ranges = set x.ranges x.count r; count = x.count + 1 } ≡ range_onto x r
-  unfolding range_onto
-  range_put h = rw (lt-ltb x.count 8 h)
-
-  pub range_past : 8 ≤ x.count → record { ranges = x.ranges; count = x.count + 1 } ≡ range_onto x r
-  unfolding range_onto
-  range_past h = rw (le-ltb x.count 8 h)
-
-  pub range_count_law : (range_onto x r).count ≡ x.count + 1
-  unfolding range_onto
-  range_count_law = refl
-
-module _ (x : LearntRead) (l : Learnt) where
-  pub learnt_put : x.count < 6 → record { learnt = set x.learnt x.count l; count = x.count + 1 } ≡ learnt_onto x l
-  unfolding learnt_onto
-  learnt_put h = rw (lt-ltb x.count 6 h)
-
-  pub learnt_past : 6 ≤ x.count → record { learnt = x.learnt; count = x.count + 1 } ≡ learnt_onto x l
-  unfolding learnt_onto
-  learnt_past h = rw (le-ltb x.count 6 h)
-
-  pub learnt_count : (learnt_onto x l).count ≡ x.count + 1
-  unfolding learnt_onto
-  learnt_count = refl

@@ -1,11 +1,10 @@
 -- Items of a list, parted by a byte: history-format.md, "Tokens are parted by one space"; `LINE,LINE..`. Two
 -- parting bytes in a row have an empty item between them.
-use Rattle.std.specs.Prelude.{List, [], ◌∷◌, ◌≡◌, refl, ℕ, ◌+◌, ◌-◌, ◌<◌, ◌≤◌, min, eqb, ltb, length, take, drop}
-use Rattle.std.proofs.Common.{ap, ◌∙◌, arith, add-one, length-drop, drop_of_length-le, drop-cons, drop-drop, lt-ltb, ltb-true}
-use Rattle.std.specs.Prelude.{Option, Some, None}
+use Rattle.std.specs.Prelude.{List, [], ◌∷◌, ◌≡◌, refl, ℕ, ◌+◌, ◌≤◌, min, eqb, length, take, drop, Option}
+use Rattle.std.proofs.Common.{ap, arith}
 use Rattle.std.specs.Option.{option_and_then}
 use Rattle.base.specs.Choice.{pick, cases}
-use Rattle.text.specs.Cut.{place_of, place_le}
+use Rattle.text.specs.Cut.{place_of}
 use Rattle.history_items.specs.declared.Items.{Items}
 
 -- A text cut at each b: one text more than it has bs.

@@ -1,6 +1,6 @@
 -- The tokens of a line, as a list: the first, those behind it, and whether there is none. Where a token is due and
 -- none stands, an empty one is read, which is bad everywhere.
-use Rattle.std.specs.Prelude.{Bool, true, false, List, [], ◌∷◌, ◌≡◌, refl, ℕ, ◌-◌, eqb, length, take, drop}
+use Rattle.std.specs.Prelude.{Bool, true, false, List, [], ◌∷◌, ◌≡◌, refl, ℕ, eqb, length}
 use Rattle.std.proofs.Common.{arith, ne_eqb, ap, sym, ◌∙◌}
 use Rattle.history_items.specs.Items.{items_of, split_first}
 

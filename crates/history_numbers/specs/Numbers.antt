@@ -1,14 +1,12 @@
 -- Numbers of fewer than 64 bits, choices and numbers that may be missing: history-format.md, "CLIENT, RATIO and
 -- THRESHOLD have 32 bits, MAXPIDS 8"; "`-` stands for none".
-use Rattle.std.specs.Prelude.{Bool, true, false, List, ℕ, eqb, Option, Some, None}
+use Rattle.std.specs.Prelude.{Bool, List, ℕ, eqb, Option, Some, None}
 use Rattle.std.specs.Option.{option_map}
 use Rattle.history_items.specs.Items.{given}
 use Rattle.base.specs.Choice.{pick}
 use Rattle.base.specs.Letters.{letters}
 use Rattle.text.specs.Cut.{same_of}
 use Rattle.numeral.specs.Decimal.{number_of}
-use Rattle.pid_table.specs.declared.WaitDuration.{WaitDuration}
-use Rattle.pid_table.specs.declared.WaitDuration.TheVariants.{Hit, Miss}
 
 unfoldable pub is_none : List ℕ → Bool
 is_none s = same_of s (letters "-")
@@ -28,8 +26,8 @@ unfoldable pub threshold_of : List ℕ → Option (Option ℕ)
 threshold_of s = pick (is_none s) (Some None) (option_map (λ n. Some n) (word32_of s))
 
 -- "WAIT a number or `-`"
-unfoldable pub wait_of : List ℕ → Option WaitDuration
-wait_of s = pick (is_none s) (Some Hit) (option_map (λ n. Miss n) (number_of 18446744073709551615 s))
+unfoldable pub wait_of : List ℕ → Option (Option ℕ)
+wait_of s = pick (is_none s) (Some None) (option_map (λ n. Some n) (number_of 18446744073709551615 s))
 
 -- "ECU a count of 1 to 255 or `-`"
 unfoldable pub ecu_of : List ℕ → Option ℕ

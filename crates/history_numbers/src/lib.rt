@@ -53,9 +53,9 @@ pub fn wait(s: &[u8]) -> Option<WaitDuration>
     ensures { result ≡ wait_of s.now }
 {
     if is_none(s) {
-        return Some(WaitDuration::Hit);
+        return Some(None);
     }
-    Some(WaitDuration::Miss(numeral::read(s, u64::MAX)?))
+    Some(Some(numeral::read(s, u64::MAX)?))
 }
 
 // A count of control units, of which there is at least one; 0 stands for none.

@@ -1,20 +1,19 @@
 -- The lines of a REPLY and of a RANGE: "a LINE being hex pairs, possibly none". "More .. lines or bytes than the
 -- box takes are passed on to it": a count stops at 255, and bytes that a reply has no room for are left out.
 -- 44 is `,`, 58 is `:`.
-use Rattle.std.specs.Prelude.{Bool, false, ◌&&◌, List, [], ◌∷◌, ◌++◌, ◌≡◌, ℕ, zero, suc, ◌+◌, ◌-◌, ◌*◌, ◌/◌, ◌%◌, ◌<◌, ◌≤◌, min, eqb, ltb, length, get_or, drop, set}
+use Rattle.std.specs.Prelude.{Bool, false, ◌&&◌, List, [], ◌∷◌, ◌++◌, ◌≡◌, ℕ, zero, suc, ◌+◌, ◌-◌, ◌*◌, ◌/◌, ◌%◌, ◌<◌, ◌≤◌, min, eqb, ltb, length, drop, set, Option, Some, None, Result}
 use Rattle.std.proofs.Math.Bool.{true}
-use Rattle.std.specs.Prelude.{Option, Some, None, Result}
 use Rattle.std.specs.Option.{option_map}
 use Rattle.std.proofs.lemmas.Option.{same_Some, none-some}
 use Rattle.std.proofs.Math.Path.{refl}
-use Rattle.std.proofs.Common.{sym, length-take, length-drop, take-append-drop}
+use Rattle.std.proofs.Common.{length-take, length-drop, take-append-drop}
 use native.Mathlib.Omega.{arith}
 use Rattle.std.proofs.Math.Dec.{leb}
 use Rattle.std.proofs.Math.ListN.{take}
 use Rattle.std.proofs.Math.Seq.{take_all, length-take-le}
-use borrow.Author.Tests.{eq-eqb, ne_eqb, le-leb, lt-ltb, le-ltb}
+use borrow.Author.Tests.{eq-eqb, le-leb}
 use Rattle.base.specs.Both.{both_left, both_right, both}
-use Rattle.base.specs.Choice.{pick, cases, false_true}
+use Rattle.base.specs.Choice.{pick, cases}
 use Rattle.base.specs.Letters.{letters}
 use Rattle.base.specs.Write.{over, over_lent}
 use Rattle.text.specs.Cut.{same_of}
@@ -167,13 +166,3 @@ module _ (r : Reply) (at : ℕ) (l : List ℕ) (a : Added) (e : added_of r at l 
   pub lines_next : (ls : List (List ℕ)) → lines_from r at (l ∷ ls) ≡ lines_from a.reply a.fill ls
   unfolding lines_from
   lines_next ls = rw e
-
--- The cases of a line's place among the lengths, of what a token's first bytes say, and of a range.
-module _ (r : Reply) (n : ℕ) where
-  pub line_counted : r.lines < 8 → record { lines = more_of r.lines; lengths = set r.lengths r.lines (short_of n); bytes = r.bytes } ≡ count_line r n
-  unfolding count_line
-  line_counted h = rw (lt-ltb r.lines 8 h)
-
-  pub line_past : 8 ≤ r.lines → record { lines = more_of r.lines; lengths = r.lengths; bytes = r.bytes } ≡ count_line r n
-  unfolding count_line
-  line_past h = rw (le-ltb r.lines 8 h)

@@ -1,19 +1,17 @@
 -- KNOWN, STATE, a result's KIND and LEARNT. 44 is `,`.
-use Rattle.std.specs.Prelude.{Bool, true, false, ◌&&◌, List, [], ◌∷◌, ◌++◌, ◌≡◌, refl, ℕ, zero, suc, ◌+◌, ◌/◌, ◌%◌, ◌^◌, ◌<◌, eqb, get_or, take, set, replicate}
-use Rattle.std.specs.Prelude.{Option, Some, None, Result, Err, map}
-use Rattle.std.specs.Option.{option_map}
+use Rattle.std.specs.Prelude.{Bool, true, false, ◌&&◌, List, ◌≡◌, refl, ℕ, ◌+◌, ◌/◌, ◌%◌, ◌^◌, eqb, get_or, replicate, Option, Some, None, Result, Err, map}
+use Rattle.std.specs.Option.{option_map, is_some}
 use Rattle.hex_text.specs.declared.Unread.{Unread}
 use Rattle.hex_text.specs.declared.Unread.TheVariants as unread
 use Rattle.hex_text.specs.Room.{bad_says, short_says}
 use Rattle.std.specs.List.{range_with_len}
-use Rattle.std.proofs.Common.{append-nil, ap, sym, add-one, take-suc-set}
+use Rattle.std.proofs.Common.{append-nil, ap}
 use native.Mathlib.Omega.{arith}
 use Rattle.std.proofs.Math.ListN.{length}
 use borrow.Author.Tests.{eq-eqb, ne_eqb, eqb-true, le-leb}
 use Rattle.base.specs.Choice.{pick}
 use Rattle.base.specs.Letters.{letters}
 use Rattle.base.specs.Times.{times}
-use Rattle.std.specs.Option.{is_some}
 use Rattle.text.specs.Cut.{head_of, tail_of, same_of}
 use Rattle.numeral.specs.Decimal.{number_of}
 use Rattle.hex_text.specs.Pairs.{is_pairs, pairs, hexes, bytes_of, read_of}

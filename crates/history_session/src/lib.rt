@@ -32,7 +32,7 @@ fn bit(b: u8, k: usize) -> bool
     (b >> k) % 2 == 1
 }
 
-// The PIDs whose bits are set.
+// The PIDs whose bits are set. A loop, since the law of `from_fn` says nothing of what its closure holds.
 #[tactic(auto, unfolding(crate::specs::Session::bit_in))]
 fn of_bits(bits: [u8; 32]) -> [bool; 256]
     ensures { result ≡ table_of (bit_in bits) 256 }

@@ -1,6 +1,6 @@
 -- The manager's calls: document 01, "PID table (manager)". Each does its event, then maintenance if 2,000 or more
 -- passed since the last (or the start).
-use Rattle.std.specs.Prelude.{Bool, List, [], ◌∷◌, ◌++◌, ℕ, ◌-◌, leb, get_or, set, replicate}
+use Rattle.std.specs.Prelude.{Option, Bool, List, [], ◌∷◌, ◌++◌, ℕ, ◌-◌, leb, get_or, set, replicate}
 use Rattle.base.specs.Choice.{pick}
 use Rattle.control.specs.Outbox.{empty_of, send_all}
 use Rattle.control.specs.Told.{told_of}
@@ -8,7 +8,6 @@ use Rattle.control.specs.declared.DongleMessage.{DongleMessage}
 use Rattle.control.specs.declared.outbox.Outbox.{Outbox}
 use Rattle.pid_table.specs.Entry.{nobody, speed, waiting_of, promotes_of, consumed_of}
 use Rattle.pid_table.specs.declared.PidInfo.{PidInfo}
-use Rattle.pid_table.specs.declared.WaitDuration.{WaitDuration}
 use Rattle.passes.specs.Sweep.{through, news, upkeep}
 use Rattle.passes.specs.declared.Ledger.{Ledger}
 use Rattle.passes.specs.declared.Pass.{Pass}
@@ -71,7 +70,7 @@ entry_told f p xs = told_of p (speed (get_or xs p nobody)) (speed (f (get_or xs 
 abbrev pub waiting_at : Terms → PidInfo → PidInfo
 waiting_at t = waiting_of t.settings.mode t.now
 
-abbrev pub consumed_at : Terms → WaitDuration → PidInfo → PidInfo
+abbrev pub consumed_at : Terms → Option ℕ → PidInfo → PidInfo
 consumed_at t w = consumed_of (promotes_of t.settings.mode t.settings.promotion w) t.now
 
 -- What an event makes of the manager, and what is sent because of it. Hits and misses count unknown PIDs too.

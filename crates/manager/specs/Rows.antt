@@ -1,6 +1,6 @@
 -- The manager over a table that is lent, as rows of numbers, with the report's numbers lent too: what they are together, and what
 -- the functions' callees answer, put together to what the functions answer.
-use Rattle.std.specs.Prelude.{Bool, true, false, List, [], ◌≡◌, ℕ, ◌-◌, Float, get_or, set, replicate}
+use Rattle.std.specs.Prelude.{Option, Bool, true, false, List, [], ◌≡◌, ℕ, ◌-◌, Float, get_or, set, replicate}
 use Rattle.std.proofs.Math.Path.{refl, ap, sym}
 use Rattle.std.proofs.Common.{◌∙◌}
 use Rattle.base.specs.Choice.{pick}
@@ -10,7 +10,6 @@ use Rattle.control.specs.declared.outbox.Outbox.{Outbox}
 use Rattle.pid_table.specs.Entry.{nobody, speed}
 use Rattle.pid_table.specs.Rows.{info_of, table_of, no_row, table_at, table_set, table_absent}
 use Rattle.pid_table.specs.declared.PidInfo.{PidInfo}
-use Rattle.pid_table.specs.declared.WaitDuration.{WaitDuration}
 use Rattle.passes.specs.Rows.{ledger_of}
 use Rattle.passes.specs.Sweep.{entry_after, sweep_of, sweeps_of, upkeep}
 use Rattle.passes.specs.declared.Ledger.{Ledger}
@@ -116,7 +115,7 @@ module _ (rows : List (List ℕ)) (c : Core) (t : Terms) where
   unfolding noted_of manager_of after sent
   waiting_is p = refl
 
-  pub consumed_is : (p : ℕ) (w : WaitDuration)
+  pub consumed_is : (p : ℕ) (w : Option ℕ)
       → record { manager = record { table = entry_set (consumed_at t w) p (table_of rows); metrics = counted_of c.metrics w; last = c.last }; outbox = send_all empty_of (entry_told (consumed_at t w) p (table_of rows)) }
       ≡ noted_of (manager_of rows c) t (Consumed p w)
   unfolding noted_of manager_of after sent

@@ -21,7 +21,7 @@ pub struct Manager {
 }
 
 // What a call tells the manager (the Rust's CacheManagerMessage). Register, leave and response are no events here, as
-// tick is none: they only let it do maintenance.
+// tick is none: they only let it do maintenance. Nothing is an event among the others, as each call has one.
 #[derive(Clone, Copy)]
 pub enum Event {
     ProfilePidsChanged,

@@ -29,7 +29,8 @@ use report::summary::Summary;
 // The most messages of one call: a message for each PID that maintenance changes, and one for the event.
 const MOST: u16 = 257;
 
-// Manager and line after a call, beside their lent arrays; as they were where the line has no room for its messages.
+// Manager and line after a call, beside their lent arrays; as they were where the line has no room for its messages. No Result,
+// which is no plainer: both come back refused or not, as the arrays that they are lent do.
 #[derive(Clone, Copy)]
 pub struct Sent {
     pub refused: bool,
@@ -90,12 +91,11 @@ pub fn send(
     ensures result_after { sent_in table.new slots.new pids.new rates.new result ≡ send_of (manager_of table.old manager) (line_of slots.old line) terms event }
 {
     if crowded(table, manager, line.count, terms, event) {
-        let nothing = report::summary::none();
         return Sent {
             refused: true,
-            manager: manager,
-            line: line,
-            summary: nothing,
+            manager,
+            line,
+            summary: report::summary::none(),
         };
     }
     let handled = rows::handle(table, pids, rates, manager, terms, event);

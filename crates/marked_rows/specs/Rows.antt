@@ -13,8 +13,6 @@ use Rattle.pid_list.specs.Rules.{empty_list, entries, pid_of, next_of}
 use Rattle.pid_list.specs.declared.PidList.{PidList}
 use Rattle.pid_table.specs.Entry.{is_fast, promotes_of, consumed_of, removed_of}
 use Rattle.pid_table.specs.declared.PidInfo.{PidInfo}
-use Rattle.pid_table.specs.declared.LastTime.TheVariants.{Never, At}
-use Rattle.pid_table.specs.declared.WaitDuration.TheVariants.{Miss}
 use Rattle.poller.specs.Calls.{apply_of}
 use Rattle.poller.specs.State.{start_of, with_lists}
 use Rattle.poller.specs.declared.Poller.{Poller}
@@ -46,13 +44,13 @@ value_row bytes = value_of 12 (line bytes) ∷ revs_number (revs_after 12 (value
 -- A Slow PID that was consumed at 0 and never waited for: whether it is tracked at a time, with a removal limit of
 -- 4,000; whether it is Fast after a wait, with a threshold of 40 in Ratio mode.
 abbrev slow : PidInfo
-slow = record { tracked = true; priority = Slow; pinned = false; waiter = Never; consumed = At 0; count = 0 }
+slow = record { tracked = true; priority = Slow; pinned = false; waiter = None; consumed = Some 0; count = 0 }
 
 abbrev kept_row : ℕ → List ℕ
 kept_row now = pick (removed_of 4000 now slow).tracked 1 0 ∷ []
 
 abbrev fast_row : ℕ → List ℕ
-fast_row wait = pick (is_fast (consumed_of (promotes_of 1 40 (Miss wait)) 0 slow).priority) 1 0 ∷ []
+fast_row wait = pick (is_fast (consumed_of (promotes_of 1 40 (Some wait)) 0 slow).priority) 1 0 ∷ []
 
 -- The fast list of a poller: its entries and the next PID after a control message.
 abbrev three : ℕ → ℕ → ℕ → ℕ → PidList

@@ -1,12 +1,11 @@
 -- A call of the box with its arguments: document 01's 17, connect in its two outcomes, by the side that they are of. A
 -- client's call changes the desk alone, one of the connection or of a round the poller alone.
-use Rattle.std.specs.Prelude.{◌≡◌, ℕ, ◌<◌, ◌≤◌, List, [], ◌∷◌, length, slice_index_or}
+use Rattle.std.specs.Prelude.{Option, ◌≡◌, ℕ, ◌<◌, ◌≤◌, List, [], ◌∷◌, length, slice_index_or}
 use Rattle.base.specs.Bytes.{Bytes}
 use Rattle.base.specs.Count.{most}
 use Rattle.config.specs.declared.Profiles.{Profiles}
 use Rattle.config.specs.declared.Settings.{Settings}
 use Rattle.link.specs.declared.Session.{Session}
-use Rattle.pid_table.specs.declared.WaitDuration.{WaitDuration}
 use Rattle.rounds.specs.declared.Outcome.{Outcome}
 use Rattle.reply.specs.Rules.{no_reply}
 use Rattle.reply.specs.declared.Response.{Response}
@@ -18,7 +17,7 @@ pub data ManagerCall : Type 0 where
   Respond : (r : Response) → ManagerCall
   Changed : (ps : Profiles) → ManagerCall
   Waiting : (p : ℕ) → ManagerCall
-  Consumed : (p : ℕ) (w : WaitDuration) → ManagerCall
+  Consumed : (p : ℕ) (w : Option ℕ) → ManagerCall
   Tick : ManagerCall
 
 -- A client's: cmd is a command's bytes, area what is lent for the answer.
@@ -70,7 +69,7 @@ profile_pids_changed t ps = manager t (Changed ps)
 abbrev pub waiting : ℕ → ℕ → Call
 waiting t p = manager t (Waiting p)
 
-abbrev pub consumed : ℕ → ℕ → WaitDuration → Call
+abbrev pub consumed : ℕ → ℕ → Option ℕ → Call
 consumed t p w = manager t (Consumed p w)
 
 abbrev pub tick : ℕ → Call

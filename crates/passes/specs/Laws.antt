@@ -1,6 +1,6 @@
 -- Passes one after the other: what they make of the table, what they tell, that what they tell makes of each
 -- PID's speed what the table has, and how much they tell at most.
-use Rattle.std.specs.Prelude.{true, ◌≡◌, length, get_or}
+use Rattle.std.specs.Prelude.{None, Option, Some, true, ◌≡◌, length, get_or}
 use mathlib.Core.List.{List, [], ◌∷◌, ◌++◌, append_assoc}
 use Rattle.std.proofs.Math.Path.{refl}
 use Rattle.std.proofs.Common.{ap, sym, ◌∙◌, length-append, ne_eqb}
@@ -11,11 +11,10 @@ use Rattle.config.specs.InForce.{in_force}
 use Rattle.control.specs.Speed.{Speed, after_all, after_append}
 use Rattle.control.specs.Outbox.{send_all, send_append, send_none}
 use Rattle.control.specs.Told.{told_of, told_same, told_length, told_own, told_other}
+use Rattle.config.specs.declared.PidPriority.{PidPriority}
 use Rattle.pid_table.specs.Entry.{nobody, speed, registered_of, demotes_of, demoted_of, removed_of, cleared_of}
 use Rattle.pid_table.specs.Laws.{cleared_speed, unwanted_speed, wanted_pinned, again_speed, pinned_kept, pinned_stays, demoted_kept, kept_same}
 use Rattle.pid_table.specs.declared.PidInfo.{PidInfo}
-use Rattle.pid_table.specs.declared.Wish.{Wish}
-use Rattle.pid_table.specs.declared.Wish.TheVariants.{Unwanted, Wanted}
 use Rattle.passes.specs.Wishes.{wish_of}
 use Rattle.passes.specs.Sweep.{entry_after, swept, tidings, sweep_of, through, news, sweeps_of, upkeep, swept_length, swept_at, entry_through, speed_at, changes}
 use Rattle.passes.specs.declared.Ledger.{Ledger}
@@ -153,24 +152,24 @@ module _ (t : Terms) (p : ℕ) where
       (omega (arith, silent p (speed x) (speed x) refl, clear_silent x))
 
   -- Registering before it: what is unwanted keeps its speed, and what is wanted is pinned.
-  upkeep_cases : (w : Wish) → wish_of (in_force t.profiles) p ≡ w → (x : PidInfo) → changes t (upkeep ++ Clear ∷ []) p x ≤ 1
+  upkeep_cases : (w : Option PidPriority) → wish_of (in_force t.profiles) p ≡ w → (x : PidInfo) → changes t (upkeep ++ Clear ∷ []) p x ≤ 1
   unfolding changes entry_after
-  upkeep_cases Unwanted e x =
-      let y = registered_of Unwanted t.now x in
+  upkeep_cases None e x =
+      let y = registered_of None t.now x in
       rw e (omega (arith, silent p (speed x) (speed y) (sym (unwanted_speed t.now x)), unpinned_once y))
-  upkeep_cases (Wanted w) e x =
-      let y = registered_of (Wanted w) t.now x in
+  upkeep_cases (Some w) e x =
+      let y = registered_of (Some w) t.now x in
       rw e (omega (arith, told_length p (speed x) (speed y), pinned_silent y (wanted_pinned t.now x w)))
 
-  register_cases : (w : Wish) → wish_of (in_force t.profiles) p ≡ w → (x : PidInfo) → changes t (Register ∷ upkeep ++ Clear ∷ []) p x ≤ 1
+  register_cases : (w : Option PidPriority) → wish_of (in_force t.profiles) p ≡ w → (x : PidInfo) → changes t (Register ∷ upkeep ++ Clear ∷ []) p x ≤ 1
   unfolding changes entry_after
-  register_cases Unwanted e x =
-      let y = registered_of Unwanted t.now x in
-      rw e (omega (arith, silent p (speed x) (speed y) (sym (unwanted_speed t.now x)), rw e at (upkeep_cases Unwanted e y)))
-  register_cases (Wanted w) e x =
-      let y = registered_of (Wanted w) t.now x in
-      let z = registered_of (Wanted w) t.now y in
-      rw e (omega (arith, told_length p (speed x) (speed y), silent p (speed y) (speed z) (sym (again_speed (Wanted w) t.now t.now x)), pinned_silent z (wanted_pinned t.now y w)))
+  register_cases None e x =
+      let y = registered_of None t.now x in
+      rw e (omega (arith, silent p (speed x) (speed y) (sym (unwanted_speed t.now x)), rw e at (upkeep_cases None e y)))
+  register_cases (Some w) e x =
+      let y = registered_of (Some w) t.now x in
+      let z = registered_of (Some w) t.now y in
+      rw e (omega (arith, told_length p (speed x) (speed y), silent p (speed y) (speed z) (sym (again_speed (Some w) t.now t.now x)), pinned_silent z (wanted_pinned t.now y w)))
 
   -- Maintenance tells of a PID at most once, and so do registering and maintenance right after it.
   pub upkeep_once : (x : PidInfo) → changes t (upkeep ++ Clear ∷ []) p x ≤ 1

@@ -1,23 +1,19 @@
 -- Entries that a pass leaves as they are, told before it comes to them.
-use Rattle.std.specs.Prelude.{Bool, true, ◌≡◌, ℕ}
+use Rattle.std.specs.Prelude.{None, Option, Some, true, ◌≡◌, ℕ}
 use Rattle.std.proofs.Math.Bool.{false}
 use Rattle.std.proofs.Math.Path.{refl, ap}
 use Rattle.std.proofs.Common.{sym}
+use Rattle.std.specs.Option.{is_none}
 use Rattle.base.specs.Both.{never}
+use Rattle.config.specs.declared.PidPriority.{PidPriority}
 use Rattle.pid_table.specs.Entry.{with_pin, with_count, registered_of, loose_of, idle_of, removed_of, demotes_of, demoted_of, cleared_of}
 use Rattle.pid_table.specs.declared.PidInfo.{PidInfo}
-use Rattle.pid_table.specs.declared.Wish.{Wish}
-use Rattle.pid_table.specs.declared.Wish.TheVariants.{Unwanted, Wanted}
-
-abbrev pub is_unwanted : Wish → Bool
-is_unwanted Unwanted = true
-is_unwanted (Wanted p) = false
 
 module _ (i : PidInfo) where
-  pub unwanted_rests : (w : Wish) (now : ℕ) → is_unwanted w ≡ true → i.pinned ≡ false → registered_of w now i ≡ i
+  pub unwanted_rests : (w : Option PidPriority) (now : ℕ) → is_none w ≡ true → i.pinned ≡ false → registered_of w now i ≡ i
   unfolding registered_of
-  unwanted_rests Unwanted now e f = ap (with_pin i) (sym f)
-  unwanted_rests (Wanted p) now e f = never false e refl
+  unwanted_rests None now e f = ap (with_pin i) (sym f)
+  unwanted_rests (Some p) now e f = never false e refl
 
   pub untracked_stays : (limit now : ℕ) → i.tracked ≡ false → removed_of limit now i ≡ i
   unfolding removed_of idle_of loose_of

@@ -1,7 +1,9 @@
 -- A pass over the table as rows of numbers: the same pass, with the wishes beside it, and which rows it leaves as they are.
-use Rattle.std.specs.Prelude.{Bool, true, ◌&&◌, List, [], ◌≡◌, refl, ℕ, ◌+◌, ◌<◌, ◌≤◌, eqb, get_or, set, length}
+use Rattle.std.specs.Prelude.{Option, Bool, true, ◌&&◌, List, [], ◌≡◌, refl, ℕ, ◌+◌, ◌<◌, ◌≤◌, eqb, get_or, set, length}
 use Rattle.std.proofs.Common.{sym, ◌∙◌, arith, eqb-true}
+use Rattle.std.specs.Option.{is_none}
 use Rattle.base.specs.Both.{both_left, both_right}
+use Rattle.config.specs.declared.PidPriority.{PidPriority}
 use Rattle.config.specs.declared.Settings.{Settings}
 use Rattle.control.specs.Outbox.{send_all}
 use Rattle.control.specs.Told.{told_of}
@@ -9,8 +11,7 @@ use Rattle.control.specs.declared.outbox.Outbox.{Outbox}
 use Rattle.pid_table.specs.Entry.{nobody, speed, registered_of, demoted_of, removed_of, cleared_of}
 use Rattle.pid_table.specs.Rows.{info_of, table_of, tracked_in, pinned_in, count_in, table_at, table_set, table_length}
 use Rattle.pid_table.specs.declared.PidInfo.{PidInfo}
-use Rattle.pid_table.specs.declared.Wish.{Wish}
-use Rattle.passes.specs.Wanted.{wish_in, wish_for}
+use Rattle.passes.specs.Wanted.{wish_for}
 use Rattle.passes.specs.Rests.{unwanted_rests, untracked_stays, untracked_undemoted, uncounted_rests}
 use Rattle.passes.specs.Sweep.{entry_after, sweep_from, sweep_turn, sweep_rest, sweep_end}
 use Rattle.passes.specs.declared.Ledger.{Ledger}
@@ -23,7 +24,7 @@ unfoldable pub ledger_of : List (List ℕ) → Outbox → Ledger
 ledger_of rows o = record { table = table_of rows; outbox = o }
 
 -- What a pass makes of an entry whose PID is wanted so.
-unfoldable pub entry_by : Pass → Settings → ℕ → Wish → PidInfo → PidInfo
+unfoldable pub entry_by : Pass → Settings → ℕ → Option PidPriority → PidInfo → PidInfo
 entry_by Register s now w i = registered_of w now i
 entry_by Demote s now w i = demoted_of s.demotion s.removal now i
 entry_by Remove s now w i = removed_of s.removal now i
@@ -54,31 +55,30 @@ below_8 Clear = omega arith
 pub column_near : (a : Pass) (column : ℕ) → column ≡ column_of a → column < 8
 column_near a column e = rw e (below_8 a)
 
--- One test for all passes: where a pass goes by no wishes, every wish is 0, and to ask for that changes nothing.
-unfoldable pub rests_by : ℕ → ℕ → Bool
-rests_by n wish = eqb n 0 && eqb wish 0
+-- One test for all passes: where a pass goes by no wishes, there is none for any PID, and to ask for that changes nothing.
+unfoldable pub rests_by : ℕ → Option PidPriority → Bool
+rests_by n wish = eqb n 0 && is_none wish
 
-abbrev pub rests_in : Pass → ℕ → List ℕ → Bool
-rests_in a n row = rests_by (get_or row (column_of a) 0) n
+abbrev pub rests_in : Pass → Option PidPriority → List ℕ → Bool
+rests_in a wish row = rests_by (get_or row (column_of a) 0) wish
 
-module _ (n wish : ℕ) (e : rests_by n wish ≡ true) where
+module _ (n : ℕ) (wish : Option PidPriority) (e : rests_by n wish ≡ true) where
   number_0 : eqb n 0 ≡ true
   unfolding rests_by
-  number_0 = both_left (eqb n 0) (eqb wish 0) e
+  number_0 = both_left (eqb n 0) (is_none wish) e
 
-  wish_0 : eqb wish 0 ≡ true
+  unwanted : is_none wish ≡ true
   unfolding rests_by
-  wish_0 = both_right (eqb n 0) (eqb wish 0) e
+  unwanted = both_right (eqb n 0) (is_none wish) e
 
-pub rests_kept : (a : Pass) (s : Settings) (now n : ℕ) (row : List ℕ) → rests_in a n row ≡ true → entry_by a s now (wish_in n) (info_of row) ≡ info_of row
+pub rests_kept : (a : Pass) (s : Settings) (now : ℕ) (w : Option PidPriority) (row : List ℕ) → rests_in a w row ≡ true → entry_by a s now w (info_of row) ≡ info_of row
 unfolding column_of entry_by
-rests_kept Register s now n row e =
-    let f = number_0 (get_or row 2 0) n e in
-    let g = wish_0 (get_or row 2 0) n e in
-    unwanted_rests (info_of row) (wish_in n) now (rw g) (rw (pinned_in row, f))
-rests_kept Demote s now n row e = untracked_undemoted (info_of row) s.demotion s.removal now (rw (tracked_in row, number_0 (get_or row 0 0) n e))
-rests_kept Remove s now n row e = untracked_stays (info_of row) s.removal now (rw (tracked_in row, number_0 (get_or row 0 0) n e))
-rests_kept Clear s now n row e = uncounted_rests (info_of row) (count_in row ∙ (rw (eqb-true (get_or row 3 0) 0 (number_0 (get_or row 3 0) n e))))
+rests_kept Register s now w row e =
+    let f = number_0 (get_or row 2 0) w e in
+    unwanted_rests (info_of row) w now (unwanted (get_or row 2 0) w e) (rw (pinned_in row, f))
+rests_kept Demote s now w row e = untracked_undemoted (info_of row) s.demotion s.removal now (rw (tracked_in row, number_0 (get_or row 0 0) w e))
+rests_kept Remove s now w row e = untracked_stays (info_of row) s.removal now (rw (tracked_in row, number_0 (get_or row 0 0) w e))
+rests_kept Clear s now w row e = uncounted_rests (info_of row) (count_in row ∙ (rw (eqb-true (get_or row 3 0) 0 (number_0 (get_or row 3 0) w e))))
 
 -- The laws of a pass, over rows.
 module _ (f : ℕ → PidInfo → PidInfo) where
@@ -107,20 +107,20 @@ module _ (f : ℕ → PidInfo → PidInfo) where
       let k = table_at rows i in
       sweep_rest f i (record { table = table_of rows; outbox = o }) nobody (omega arith) (rw k e)
 
--- A turn of a pass at the PID i, whose number is n: with its row made anew, and where it rests.
-module _ (a : Pass) (t : Terms) (i n : ℕ) (rows : List (List ℕ)) (o : Outbox) (near : i < length rows) (wanted : wish_in n ≡ wish_for a t.profiles i) where
-  by_number : (x : PidInfo) → entry_by a t.settings t.now (wish_in n) x ≡ entry_after a t i x
-  by_number x = rw wanted (entry_by_law a t i x)
+-- A turn of a pass at the PID i, which is wanted so: with its row made anew, and where it rests.
+module _ (a : Pass) (t : Terms) (i : ℕ) (w : Option PidPriority) (rows : List (List ℕ)) (o : Outbox) (near : i < length rows) (wanted : w ≡ wish_for a t.profiles i) where
+  by_wish : (x : PidInfo) → entry_by a t.settings t.now w x ≡ entry_after a t i x
+  by_wish x = rw wanted (entry_by_law a t i x)
 
-  pub pass_turn : (x y : PidInfo) (w : Wish) (r : List ℕ) (p : Outbox) → x ≡ info_of (get_or rows i []) → w ≡ wish_in n
+  pub pass_turn : (x y : PidInfo) (r : List ℕ) (p : Outbox) → x ≡ info_of (get_or rows i [])
       → y ≡ entry_by a t.settings t.now w x → info_of r ≡ y → p ≡ send_all o (told_of i (speed x) (speed y))
       → sweep_from (entry_after a t) (i + 1) (ledger_of (set rows i r) p) ≡ sweep_from (entry_after a t) i (ledger_of rows o)
-  pass_turn x y w r p e f g h k =
+  pass_turn x y r p e g h k =
       rows_turn (entry_after a t) i rows o r p near
-      (h ∙ g ∙ rw (e, f) (by_number (info_of (get_or rows i []))))
+      (h ∙ g ∙ rw e (by_wish (info_of (get_or rows i []))))
       (rw (h, ← e) k)
 
-  pub pass_rest : rests_in a n (get_or rows i []) ≡ true → sweep_from (entry_after a t) (i + 1) (ledger_of rows o) ≡ sweep_from (entry_after a t) i (ledger_of rows o)
+  pub pass_rest : rests_in a w (get_or rows i []) ≡ true → sweep_from (entry_after a t) (i + 1) (ledger_of rows o) ≡ sweep_from (entry_after a t) i (ledger_of rows o)
   pass_rest e =
       rows_rest (entry_after a t) i rows o near
-      (sym (by_number (info_of (get_or rows i []))) ∙ rests_kept a t.settings t.now n (get_or rows i []) e)
+      (sym (by_wish (info_of (get_or rows i []))) ∙ rests_kept a t.settings t.now w (get_or rows i []) e)

@@ -27,6 +27,7 @@ pub struct Terms {
     pub now: u64,
 }
 
+// A value and no closure, since the laws go over lists of passes.
 #[derive(Clone, Copy)]
 pub enum Pass {
     Register,
@@ -36,6 +37,7 @@ pub enum Pass {
 }
 
 // Whether a profile of this kind is in force: a triggered one only when it is enabled.
+#[tactic(auto, unfolding(crate::specs::Wishes::counts_of))]
 fn counts(kind: u8, enabled: bool) -> bool
     ensures { result ≡ counts_of kind enabled }
 {

@@ -9,6 +9,7 @@ use control::outbox::Outbox;
 use pid_table::{PidInfo, Wish};
 
 // What a pass makes of an entry whose PID is wanted so.
+#[tactic(auto, unfolding(crate::specs::Rows::entry_by))]
 fn entry_by(pass: Pass, settings: Settings, now: u64, wish: Wish, info: PidInfo) -> PidInfo
     ensures { result ≡ entry_by pass settings now wish info }
 {
@@ -21,6 +22,7 @@ fn entry_by(pass: Pass, settings: Settings, now: u64, wish: Wish, info: PidInfo)
 }
 
 // The number of a row that a pass looks at first: whether its PID is pinned, is in the table at all, or was consumed.
+#[tactic(auto, unfolding(crate::specs::Rows::column_of))]
 fn column_of(pass: Pass) -> usize
     ensures { result ≡ column_of pass }
 {
@@ -34,10 +36,11 @@ fn column_of(pass: Pass) -> usize
 
 // Whether a pass is sure to leave a row as it is, told from that number and the wish: most PIDs are not in the table, and this
 // test costs less than to make their entries anew.
-fn rests(number: u64, wish: u8) -> bool
+#[tactic(auto, unfolding(crate::specs::Rows::rests_by))]
+fn rests(number: u64, wish: Wish) -> bool
     ensures { result ≡ rests_by number wish }
 {
-    if number == 0 { wish == 0 } else { false }
+    number == 0 && wish.is_none()
 }
 
 // One pass over the table; what it tells goes into the outbox.
@@ -50,22 +53,17 @@ pub fn sweep(table: &mut [[u64; 8]; 256], mut outbox: Outbox, pass: Pass, terms:
     let settings = terms.settings;
     let wishes = crate::wishes::wishes_for(pass, profiles);
     let column = column_of(pass);
-    let mut i: usize = 0;
-    while i < 256 {
-        let number = wishes[i];
-        if !rests(table[i][column], number) {
-            let row = table[i];
-            let before = pid_table::rows::unpack(row);
-            let wish = crate::wishes::wish_in(number);
+    for i in 0..256 {
+        let wish = wishes[i];
+        if !rests(table[i][column], wish) {
+            let before = pid_table::rows::unpack(table[i]);
             let after = entry_by(pass, settings, terms.now, wish, before);
-            let next = pid_table::rows::pack(after);
-            table[i] = next;
+            table[i] = pid_table::rows::pack(after);
             // most entries keep their speed, and then the outbox is not touched
             if !pid_table::same_speed(before, after) {
                 outbox = pid_table::told(outbox, i as u8, before, after);
             }
         }
-        i += 1;
     }
     outbox
 }

@@ -1,21 +1,15 @@
 -- What each event, and each part of maintenance, makes of a PID's entry: document 01, "PID table (manager)".
-use Rattle.std.specs.Prelude.{Bool, true, false, not, ◌&&◌, ℕ, ◌-◌, ltb, leb, eqb}
+use Rattle.std.specs.Prelude.{None, Option, Some, Bool, true, false, not, ◌&&◌, ℕ, ◌-◌, ltb, leb, eqb}
 use Rattle.base.specs.Choice.{pick}
 use Rattle.base.specs.Count.{more_of}
 use Rattle.config.specs.declared.PidPriority.{PidPriority}
 use Rattle.config.specs.declared.PidPriority.TheVariants.{Fast, Slow}
 use Rattle.control.specs.Speed.{Speed, untracked, speed_of}
-use Rattle.pid_table.specs.declared.LastTime.{LastTime}
-use Rattle.pid_table.specs.declared.LastTime.TheVariants.{Never, At}
-use Rattle.pid_table.specs.declared.WaitDuration.{WaitDuration}
-use Rattle.pid_table.specs.declared.WaitDuration.TheVariants.{Hit, Miss}
-use Rattle.pid_table.specs.declared.Wish.{Wish}
-use Rattle.pid_table.specs.declared.Wish.TheVariants.{Unwanted, Wanted}
 use Rattle.pid_table.specs.declared.PidInfo.{PidInfo}
 
 -- A PID that is not in the table.
 abbrev pub nobody : PidInfo
-nobody = record { tracked = false; priority = Fast; pinned = false; waiter = Never; consumed = Never; count = 0 }
+nobody = record { tracked = false; priority = Fast; pinned = false; waiter = None; consumed = None; count = 0 }
 
 -- Setters, since antt has no record update.
 abbrev pub with_priority : PidInfo → PidPriority → PidInfo
@@ -25,10 +19,10 @@ abbrev pub with_pin : PidInfo → Bool → PidInfo
 with_pin i x = record { tracked = i.tracked; priority = i.priority; pinned = x; waiter = i.waiter; consumed = i.consumed; count = i.count }
 
 abbrev pub with_waiter : PidInfo → ℕ → PidInfo
-with_waiter i now = record { tracked = i.tracked; priority = i.priority; pinned = i.pinned; waiter = At now; consumed = i.consumed; count = i.count }
+with_waiter i now = record { tracked = i.tracked; priority = i.priority; pinned = i.pinned; waiter = Some now; consumed = i.consumed; count = i.count }
 
 abbrev pub with_consumed : PidInfo → ℕ → ℕ → PidInfo
-with_consumed i now n = record { tracked = i.tracked; priority = i.priority; pinned = i.pinned; waiter = i.waiter; consumed = At now; count = n }
+with_consumed i now n = record { tracked = i.tracked; priority = i.priority; pinned = i.pinned; waiter = i.waiter; consumed = Some now; count = n }
 
 abbrev pub with_count : PidInfo → ℕ → PidInfo
 with_count i n = record { tracked = i.tracked; priority = i.priority; pinned = i.pinned; waiter = i.waiter; consumed = i.consumed; count = n }
@@ -50,12 +44,12 @@ unfoldable pub waiting_of : ℕ → ℕ → PidInfo → PidInfo
 waiting_of mode now i =
     pick i.tracked
     (with_waiter (with_priority i (promoted_if (eqb mode 0) i.priority)) now)
-    (record { tracked = true; priority = Fast; pinned = false; waiter = At now; consumed = Never; count = 0 })
+    (record { tracked = true; priority = Fast; pinned = false; waiter = Some now; consumed = None; count = 0 })
 
 -- Consumed promotes in Ratio mode, at a wait of the threshold or more.
-unfoldable pub promotes_of : ℕ → ℕ → WaitDuration → Bool
-promotes_of mode threshold Hit = false
-promotes_of mode threshold (Miss wait) = not (eqb mode 0) && leb threshold wait
+unfoldable pub promotes_of : ℕ → ℕ → Option ℕ → Bool
+promotes_of mode threshold None = false
+promotes_of mode threshold (Some wait) = not (eqb mode 0) && leb threshold wait
 
 -- Consumed: known PIDs only are marked and counted.
 unfoldable pub consumed_of : Bool → ℕ → PidInfo → PidInfo
@@ -65,17 +59,17 @@ consumed_of promotes now i =
     i
 
 -- Registering the profiles: unwanted PIDs lose their pin; new ones are tracked pinned, consumed now.
-unfoldable pub registered_of : Wish → ℕ → PidInfo → PidInfo
-registered_of Unwanted now i = with_pin i false
-registered_of (Wanted p) now i =
+unfoldable pub registered_of : Option PidPriority → ℕ → PidInfo → PidInfo
+registered_of None now i = with_pin i false
+registered_of (Some p) now i =
     pick i.tracked
     (with_pin (with_priority i (promoted_if (is_fast p) i.priority)) true)
-    (record { tracked = true; priority = p; pinned = true; waiter = Never; consumed = At now; count = 0 })
+    (record { tracked = true; priority = p; pinned = true; waiter = None; consumed = Some now; count = 0 })
 
 -- Absent, or strictly past the limit.
-unfoldable pub past_of : LastTime → ℕ → ℕ → Bool
-past_of Never limit now = true
-past_of (At t) limit now = ltb limit (now - t)
+unfoldable pub past_of : Option ℕ → ℕ → ℕ → Bool
+past_of None limit now = true
+past_of (Some t) limit now = ltb limit (now - t)
 
 -- Maintenance concerns the unpinned only.
 unfoldable pub loose_of : PidInfo → Bool

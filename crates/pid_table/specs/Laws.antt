@@ -1,14 +1,12 @@
 -- How the steps of registering and of maintenance follow upon each other at one entry: a PID that a profile
 -- holds is left alone, and what is demoted is not removed.
-use Rattle.std.specs.Prelude.{true, false, ◌≡◌, ℕ}
+use Rattle.std.specs.Prelude.{None, Option, Some, true, false, ◌≡◌, ℕ}
 use Rattle.std.proofs.Math.Path.{refl}
 use Rattle.std.proofs.Common.{◌∙◌}
 use Rattle.base.specs.Choice.{pick, cases}
 use Rattle.config.specs.declared.PidPriority.{PidPriority}
 use Rattle.config.specs.declared.PidPriority.TheVariants.{Fast, Slow}
 use Rattle.pid_table.specs.Entry.{with_priority, speed, is_fast, loose_of, idle_of, demotes_of, demoted_of, removed_of, registered_of, cleared_of}
-use Rattle.pid_table.specs.declared.Wish.{Wish}
-use Rattle.pid_table.specs.declared.Wish.TheVariants.{Unwanted, Wanted}
 use Rattle.pid_table.specs.declared.PidInfo.{PidInfo}
 
 pub cleared_speed : (i : PidInfo) → speed (cleared_of i) ≡ speed i
@@ -16,11 +14,11 @@ unfolding speed cleared_of
 cleared_speed i = refl
 
 module _ (now : ℕ) (i : PidInfo) where
-  pub unwanted_speed : speed (registered_of Unwanted now i) ≡ speed i
+  pub unwanted_speed : speed (registered_of None now i) ≡ speed i
   unfolding speed registered_of
   unwanted_speed = refl
 
-  pub wanted_pinned : (p : PidPriority) → (registered_of (Wanted p) now i).pinned ≡ true
+  pub wanted_pinned : (p : PidPriority) → (registered_of (Some p) now i).pinned ≡ true
   unfolding registered_of
   wanted_pinned p = cases _ i.tracked (λ e. rw e) (λ e. rw e)
 
@@ -35,10 +33,10 @@ self_fast Fast = refl
 self_fast Slow = refl
 
 -- Registering the same profiles again changes no speed.
-pub again_speed : (w : Wish) (now then : ℕ) (i : PidInfo) → speed (registered_of w now (registered_of w then i)) ≡ speed (registered_of w then i)
+pub again_speed : (w : Option PidPriority) (now then : ℕ) (i : PidInfo) → speed (registered_of w now (registered_of w then i)) ≡ speed (registered_of w then i)
 unfolding speed registered_of
-again_speed Unwanted now then i = refl
-again_speed (Wanted p) now then i = cases _ i.tracked
+again_speed None now then i = refl
+again_speed (Some p) now then i = cases _ i.tracked
     (λ e. rw e (rw (twice_fast p i.priority)))
     (λ e. rw e (rw (self_fast p)))
 

@@ -1,21 +1,17 @@
 -- The manager's table as rows of numbers, as it is lent: what a row means, whatever numbers it has.
-use Rattle.std.specs.Prelude.{Bool, true, false, not, List, [], ◌∷◌, map, ◌≡◌, ℕ, zero, suc, ◌%◌, ◌<◌, eqb, get_or, set, length, replicate}
+use Rattle.std.specs.Prelude.{None, Option, Some, Bool, true, false, not, List, [], ◌∷◌, map, ◌≡◌, ℕ, zero, suc, ◌%◌, ◌<◌, eqb, get_or, set, length, replicate}
 use Rattle.std.proofs.Math.Path.{refl}
 use Rattle.std.proofs.Common.{ap, arith}
-use Rattle.std.proofs.lemmas.List.{length-map, length-replicate}
+use Rattle.std.proofs.lemmas.List.{length-map}
 use Rattle.std.proofs.Math.ListN.{get_or-map}
+use Rattle.std.specs.Option.{is_some, unwrap_or}
+use mir.Val.{bool_byte}
 use Rattle.base.specs.Choice.{pick}
 use Rattle.base.specs.Each.{map_set}
 use Rattle.config.specs.declared.PidPriority.{PidPriority}
 use Rattle.config.specs.declared.PidPriority.TheVariants.{Fast, Slow}
 use Rattle.pid_table.specs.Entry.{nobody}
-use Rattle.pid_table.specs.declared.LastTime.{LastTime}
-use Rattle.pid_table.specs.declared.LastTime.TheVariants.{Never, At}
 use Rattle.pid_table.specs.declared.PidInfo.{PidInfo}
-
-abbrev pub bit_of : Bool → ℕ
-bit_of true = 1
-bit_of false = 0
 
 abbrev pub slow_in : PidPriority → ℕ
 slow_in Fast = 0
@@ -25,16 +21,8 @@ abbrev pub priority_in : ℕ → PidPriority
 priority_in n = pick (eqb n 0) Fast Slow
 
 -- A last time is two numbers: whether there is one, and which.
-abbrev pub known_in : LastTime → ℕ
-known_in Never = 0
-known_in (At t) = 1
-
-abbrev pub time_in : LastTime → ℕ
-time_in Never = 0
-time_in (At t) = t
-
-abbrev pub last_of : ℕ → ℕ → LastTime
-last_of known time = pick (eqb known 0) Never (At time)
+abbrev pub last_of : ℕ → ℕ → Option ℕ
+last_of known time = pick (eqb known 0) None (Some time)
 
 -- THE ENTRY that a row is. The count is one of 32 bits.
 unfoldable pub info_of : List ℕ → PidInfo
@@ -51,7 +39,7 @@ info_of row = record {
 unfoldable pub table_of : List (List ℕ) → List PidInfo
 table_of rows = map info_of rows
 
-bit_back : (b : Bool) → not (eqb (bit_of b) 0) ≡ b
+bit_back : (b : Bool) → not (eqb (bool_byte b) 0) ≡ b
 bit_back true = refl
 bit_back false = refl
 
@@ -59,18 +47,18 @@ slow_back : (p : PidPriority) → priority_in (slow_in p) ≡ p
 slow_back Fast = refl
 slow_back Slow = refl
 
-last_back : (l : LastTime) → last_of (known_in l) (time_in l) ≡ l
-last_back Never = refl
-last_back (At t) = refl
+last_back : (l : Option ℕ) → last_of (bool_byte (is_some l)) (unwrap_or l 0) ≡ l
+last_back None = refl
+last_back (Some t) = refl
 
 -- A row of an entry's numbers is that entry.
-pub packed : (n : PidInfo) (a b d e f g h : ℕ) → a ≡ bit_of n.tracked → b ≡ slow_in n.priority → d ≡ bit_of n.pinned
-    → e ≡ known_in n.waiter → f ≡ time_in n.waiter → g ≡ known_in n.consumed → h ≡ time_in n.consumed → n.count < 4294967296
-    → info_of (a ∷ b ∷ d ∷ n.count ∷ e ∷ f ∷ g ∷ h ∷ []) ≡ n
+pub packed : (n : PidInfo) (a b d m e f g h : ℕ) → a ≡ bool_byte n.tracked → b ≡ slow_in n.priority → d ≡ bool_byte n.pinned → m ≡ n.count
+    → e ≡ bool_byte (is_some n.waiter) → f ≡ unwrap_or n.waiter 0 → g ≡ bool_byte (is_some n.consumed) → h ≡ unwrap_or n.consumed 0 → n.count < 4294967296
+    → info_of (a ∷ b ∷ d ∷ m ∷ e ∷ f ∷ g ∷ h ∷ []) ≡ n
 unfolding info_of
-packed n a b d e f g h ea eb ed ee ef eg eh k =
-    let m : n.count % 4294967296 ≡ n.count = omega arith in
-    rw (ea, eb, ed, ee, ef, eg, eh, bit_back n.tracked, slow_back n.priority, bit_back n.pinned, last_back n.waiter, last_back n.consumed, m)
+packed n a b d m e f g h ea eb ed em ee ef eg eh k =
+    let z : n.count % 4294967296 ≡ n.count = omega arith in
+    rw (ea, eb, ed, em, ee, ef, eg, eh, bit_back n.tracked, slow_back n.priority, bit_back n.pinned, last_back n.waiter, last_back n.consumed, z)
 
 -- ---- rows of which nothing but a test is wanted
 
@@ -114,18 +102,3 @@ pub table_absent : (n : ℕ) → table_of (replicate n no_row) ≡ replicate n n
 unfolding table_of
 table_absent zero = refl
 table_absent (suc n) = rw row_absent (ap (λ (t : List PidInfo). nobody ∷ t) (table_absent n))
-
--- A table of no PID, as rows and as entries.
-unfoldable pub blank_table : List (List ℕ)
-blank_table = replicate 256 no_row
-
-unfoldable pub untracked : List PidInfo
-untracked = replicate 256 nobody
-
-pub blank_length : length blank_table ≡ 256
-unfolding blank_table
-blank_length = length-replicate {A = List ℕ} 256 no_row
-
-pub untracked_length : length untracked ≡ 256
-unfolding untracked
-untracked_length = length-replicate 256 nobody

@@ -13,26 +13,14 @@ use config::PidPriority;
 use control::DongleMessage;
 use control::outbox::Outbox;
 
-// When something last happened.
-#[derive(Clone, Copy)]
-pub enum LastTime {
-    Never,
-    At(u64),
-}
+// When something last happened, if ever.
+pub type LastTime = Option<u64>;
 
-// How a client came by a reading: from the cache at once, or after a wait.
-#[derive(Clone, Copy)]
-pub enum WaitDuration {
-    Hit,
-    Miss(u64),
-}
+// How long a client waited for a reading; none is a reading that it had from the cache at once.
+pub type WaitDuration = Option<u64>;
 
-// What the profiles in force want of a PID.
-#[derive(Clone, Copy)]
-pub enum Wish {
-    Unwanted,
-    Wanted(PidPriority),
-}
+// What the profiles in force want of a PID, if anything.
+pub type Wish = Option<PidPriority>;
 
 #[derive(Clone, Copy)]
 pub struct PidInfo {
@@ -53,24 +41,21 @@ pub struct PidInfo {
 pub fn absent() -> PidInfo
     ensures { result ≡ nobody }
 {
-    let never = LastTime::Never;
     PidInfo {
         tracked: false,
         priority: PidPriority::Fast,
         pinned: false,
-        waiter: never,
-        consumed: never,
+        waiter: None,
+        consumed: None,
         count: 0,
     }
 }
 
+#[tactic(auto, unfolding(crate::specs::Entry::is_fast))]
 pub fn is_fast(priority: PidPriority) -> bool
     ensures { result ≡ is_fast priority }
 {
-    match priority {
-        PidPriority::Fast => true,
-        PidPriority::Slow => false,
-    }
+    matches!(priority, PidPriority::Fast)
 }
 
 pub fn promoted_if(test: bool, priority: PidPriority) -> PidPriority
@@ -80,136 +65,91 @@ pub fn promoted_if(test: bool, priority: PidPriority) -> PidPriority
 }
 
 // A client waits for the PID.
-pub fn waiting(info: PidInfo, mode: u8, now: u64) -> PidInfo
+#[tactic(auto, unfolding(crate::specs::Entry::waiting_of))]
+pub fn waiting(mut info: PidInfo, mode: u8, now: u64) -> PidInfo
     ensures { result ≡ waiting_of mode now info }
 {
-    if info.tracked {
-        let consumed = info.consumed;
-        let priority = info.priority;
-        let raised = promoted_if(mode == 0, priority);
-        PidInfo {
-            tracked: info.tracked,
-            priority: raised,
-            pinned: info.pinned,
-            waiter: LastTime::At(now),
-            consumed: consumed,
-            count: info.count,
-        }
-    } else {
-        PidInfo {
+    if !info.tracked {
+        return PidInfo {
             tracked: true,
-            priority: PidPriority::Fast,
-            pinned: false,
-            waiter: LastTime::At(now),
-            consumed: LastTime::Never,
-            count: 0,
-        }
+            waiter: Some(now),
+            ..absent()
+        };
     }
+    info.priority = promoted_if(mode == 0, info.priority);
+    info.waiter = Some(now);
+    info
 }
 
 // Whether a reading consumed so promotes a slow PID.
+#[tactic(auto, unfolding(crate::specs::Entry::promotes_of))]
 pub fn promotes(mode: u8, threshold: u64, wait: WaitDuration) -> bool
     ensures { result ≡ promotes_of mode threshold wait }
 {
-    match wait {
-        WaitDuration::Hit => false,
-        WaitDuration::Miss(time) => { if mode == 0 { false } else { threshold <= time } }
-    }
+    wait.is_some_and(|time| mode != 0 && threshold <= time)
 }
 
 // A client consumed a reading of the PID.
-pub fn consumed(info: PidInfo, promotes: bool, now: u64) -> PidInfo
+#[tactic(auto, unfolding(crate::specs::Entry::consumed_of))]
+pub fn consumed(mut info: PidInfo, promotes: bool, now: u64) -> PidInfo
     ensures { result ≡ consumed_of promotes now info }
 {
     if info.tracked {
-        let waiter = info.waiter;
-        let priority = info.priority;
-        let raised = promoted_if(promotes, priority);
-        let count = base::more(info.count);
-        PidInfo {
-            tracked: info.tracked,
-            priority: raised,
-            pinned: info.pinned,
-            waiter: waiter,
-            consumed: LastTime::At(now),
-            count: count,
-        }
-    } else {
-        info
+        info.priority = promoted_if(promotes, info.priority);
+        info.consumed = Some(now);
+        info.count = base::more(info.count);
     }
+    info
 }
 
 // The profiles in force want this of the PID.
+#[tactic(auto, unfolding(crate::specs::Entry::registered_of))]
 pub fn registered(mut info: PidInfo, wish: Wish, now: u64) -> PidInfo
     ensures { result ≡ registered_of wish now info }
 {
-    match wish {
-        Wish::Unwanted => {
-            info.pinned = false;
-            info
-        }
-        Wish::Wanted(wanted) => {
-            if info.tracked {
-                let waiter = info.waiter;
-                let consumed = info.consumed;
-                let priority = info.priority;
-                let raised = promoted_if(is_fast(wanted), priority);
-                PidInfo {
-                    tracked: info.tracked,
-                    priority: raised,
-                    pinned: true,
-                    waiter: waiter,
-                    consumed: consumed,
-                    count: info.count,
-                }
-            } else {
-                PidInfo {
-                    tracked: true,
-                    priority: wanted,
-                    pinned: true,
-                    waiter: LastTime::Never,
-                    consumed: LastTime::At(now),
-                    count: 0,
-                }
-            }
-        }
+    let Some(wanted) = wish else {
+        info.pinned = false;
+        return info;
+    };
+    if !info.tracked {
+        return PidInfo {
+            tracked: true,
+            priority: wanted,
+            pinned: true,
+            consumed: Some(now),
+            ..absent()
+        };
     }
+    info.priority = promoted_if(is_fast(wanted), info.priority);
+    info.pinned = true;
+    info
 }
 
 // Never, or more than `limit` before `now`. A time after `now` is 0 before it.
+#[tactic(auto, unfolding(crate::specs::Entry::past_of))]
 fn past(last: LastTime, limit: u64, now: u64) -> bool
     ensures { result ≡ past_of last limit now }
 {
-    match last {
-        LastTime::Never => true,
-        LastTime::At(time) => limit < base::elapsed(time, now),
-    }
+    last.is_none_or(|time| limit < base::elapsed(time, now))
 }
 
 // Tracked, and no profile holds it.
+#[tactic(auto, unfolding(crate::specs::Entry::loose_of))]
 fn loose(info: PidInfo) -> bool
     ensures { result ≡ loose_of info }
 {
-    if info.tracked { !info.pinned } else { false }
+    info.tracked && !info.pinned
 }
 
 // To be removed.
-fn idle(info: PidInfo, limit: u64, now: u64) -> bool
-    ensures { result ≡ idle_of limit now info }
+#[tactic(auto, unfolding(crate::specs::Entry::idle_of))]
+fn idle(info: PidInfo, removal: u64, now: u64) -> bool
+    ensures { result ≡ idle_of removal now info }
 {
-    if loose(info) {
-        let waiter = info.waiter;
-        let consumed = info.consumed;
-        if past(waiter, limit, now) {
-            past(consumed, limit, now)
-        } else {
-            false
-        }
-    } else {
-        false
-    }
+    loose(info) && past(info.waiter, removal, now) && past(info.consumed, removal, now)
 }
 
+#[tactic(auto, unfolding(crate::specs::Entry::removed_of))]
 pub fn removed(info: PidInfo, limit: u64, now: u64) -> PidInfo
     ensures { result ≡ removed_of limit now info }
 {
@@ -221,45 +161,28 @@ pub fn removed(info: PidInfo, limit: u64, now: u64) -> PidInfo
 }
 
 // To be demoted: fast, not to be removed, and without a waiter for longer than `limit`.
+#[tactic(auto, unfolding(crate::specs::Entry::demotes_of))]
 fn demotes(info: PidInfo, limit: u64, removal: u64, now: u64) -> bool
     ensures { result ≡ demotes_of limit removal now info }
 {
-    if idle(info, removal, now) {
-        return false;
-    }
-    if loose(info) {
-        let waiter = info.waiter;
-        let priority = info.priority;
-        if is_fast(priority) {
-            past(waiter, limit, now)
-        } else {
-            false
-        }
-    } else {
-        false
-    }
+    !idle(info, removal, now)
+        && loose(info)
+        && is_fast(info.priority)
+        && past(info.waiter, limit, now)
 }
 
-pub fn demoted(info: PidInfo, limit: u64, removal: u64, now: u64) -> PidInfo
+#[tactic(auto, unfolding(crate::specs::Entry::demoted_of))]
+pub fn demoted(mut info: PidInfo, limit: u64, removal: u64, now: u64) -> PidInfo
     ensures { result ≡ demoted_of limit removal now info }
 {
     if demotes(info, limit, removal, now) {
-        let waiter = info.waiter;
-        let consumed = info.consumed;
-        PidInfo {
-            tracked: info.tracked,
-            priority: PidPriority::Slow,
-            pinned: info.pinned,
-            waiter: waiter,
-            consumed: consumed,
-            count: info.count,
-        }
-    } else {
-        info
+        info.priority = PidPriority::Slow;
     }
+    info
 }
 
 // The count starts anew.
+#[tactic(auto, unfolding(crate::specs::Entry::cleared_of))]
 pub fn cleared(mut info: PidInfo) -> PidInfo
     ensures { result ≡ cleared_of info }
 {
@@ -271,33 +194,26 @@ pub fn cleared(mut info: PidInfo) -> PidInfo
 pub fn same_speed(before: PidInfo, after: PidInfo) -> bool
     ensures { result ≡ same_speed (speed before) (speed after) }
 {
-    if before.tracked {
-        if after.tracked {
-            let had = before.priority;
-            let has = after.priority;
-            let fast = is_fast(has);
-            if is_fast(had) { fast } else { !fast }
-        } else {
-            false
-        }
-    } else {
-        !after.tracked
+    if !before.tracked || !after.tracked {
+        return before.tracked == after.tracked;
     }
+    is_fast(before.priority) == is_fast(after.priority)
 }
 
 // What the poller is to be told of the PID.
+#[tactic(auto, unfolding(crate::specs::Entry::speed))]
 fn message(pid: u8, info: PidInfo) -> DongleMessage
     ensures { result ≡ message_of pid (speed info) }
 {
     if info.tracked {
-        let priority = info.priority;
-        DongleMessage::SetPidPriority(pid, priority)
+        DongleMessage::SetPidPriority(pid, info.priority)
     } else {
         DongleMessage::RemovePid(pid)
     }
 }
 
 // One message where the PID's speed changed, else none.
+#[tactic(auto, using(control::specs::Outbox::send_one, control::specs::Outbox::send_none), unfolding(control::specs::Told::told_of))]
 pub fn told(outbox: Outbox, pid: u8, before: PidInfo, after: PidInfo) -> Outbox
     ensures { result ≡ send_all outbox (told_of pid (speed before) (speed after)) }
 {

@@ -134,7 +134,7 @@ fn read_line<const N: usize, W: Write>(
         return Ok(alone(reading, Task::Bad));
     }
     let Some(what) = history::parse(line, bytes) else {
-        return Ok(alone(notes, Task::Bad));
+        return Ok(alone(reading, Task::Bad));
     };
     Ok(Taken {
         reading,

@@ -15,21 +15,14 @@ const LONGEST: u64 = 16777215999;
 fn counted(count: u32) -> u32
     ensures { result ≡ min count most_counted }
 {
-    if count < MOST_COUNTED {
-        count
-    } else {
-        MOST_COUNTED
-    }
+    count.min(MOST_COUNTED)
 }
 
 // Maintenance runs after 2,000 or more. A time of 0 counts as 1, so that nothing is divided by 0.
 fn lasting(elapsed: u64) -> u64
     ensures { result ≡ max 1 (min elapsed longest) }
 {
-    if elapsed == 0 {
-        return 1;
-    }
-    if elapsed < LONGEST { elapsed } else { LONGEST }
+    elapsed.min(LONGEST).max(1)
 }
 
 // Milliseconds as seconds: the Rust's `as_secs_f32`.

@@ -19,7 +19,7 @@ pub struct Rated {
     pub rate: f32,
 }
 
-// The first `count` of `list`.
+// The first `count` of `list`. An array with its count, since the box runs in fixed memory.
 #[derive(Clone, Copy)]
 pub struct Rates {
     pub list: [Rated; 256],
@@ -27,24 +27,19 @@ pub struct Rates {
 }
 
 // The order of the report: the highest rate first, equal rates by rising PID.
+#[tactic(auto, unfolding(crate::specs::Rates::ahead_of))]
 fn ahead(one: Rated, other: Rated) -> bool
     ensures { result ≡ ahead_of one other }
 {
-    if other.rate < one.rate {
-        return true;
-    }
-    if other.rate == one.rate {
-        one.pid < other.pid
-    } else {
-        false
-    }
+    other.rate < one.rate || (other.rate == one.rate && one.pid < other.pid)
 }
 
 // Tracked, and consumed since the counts were cleared.
+#[tactic(auto, unfolding(crate::specs::Rates::listed_of))]
 fn listed(info: PidInfo) -> bool
     ensures { result ≡ listed_of info }
 {
-    if info.tracked { 0 < info.count } else { false }
+    info.tracked && 0 < info.count
 }
 
 fn no_rates() -> Rates
@@ -66,17 +61,15 @@ fn insert(mut rates: Rates, rated: Rated) -> Rates
     }
     let n = rates.count as usize;
     let mut carried = rated;
-    let mut i: usize = 0;
-    while i < n {
+    for i in 0..n {
         let here = rates.list[i];
         if ahead(carried, here) {
             rates.list[i] = carried;
             carried = here;
         }
-        i += 1;
     }
     rates.list[n] = carried;
-    rates.count = rates.count + 1;
+    rates.count += 1;
     rates
 }
 
@@ -94,12 +87,10 @@ pub struct Report {
 pub fn no_report() -> Report
     ensures { result ≡ no_report }
 {
-    let rates = no_rates();
-    let metrics = metrics::none();
     Report {
         ran: false,
-        rates: rates,
-        metrics: metrics,
+        rates: no_rates(),
+        metrics: metrics::none(),
         hitrate: 0.0,
     }
 }

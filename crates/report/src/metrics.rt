@@ -23,54 +23,47 @@ pub fn none() -> CacheMetrics
 }
 
 // A total with a wait more; it stops at the largest number of its 64 bits.
+#[tactic(auto, unfolding(crate::specs::Metrics::longer_by))]
 fn longer_by(total: u64, wait: u64) -> u64
     ensures { result ≡ longer_by total wait }
 {
-    if wait <= 18446744073709551615 - total {
-        total + wait
-    } else {
-        18446744073709551615
-    }
+    total.saturating_add(wait)
 }
 
 // A reading was consumed, whether its PID is known or not.
-pub fn noted(metrics: CacheMetrics, wait: WaitDuration) -> CacheMetrics
+#[tactic(auto, unfolding(crate::specs::Metrics::noted_of))]
+pub fn noted(mut metrics: CacheMetrics, wait: WaitDuration) -> CacheMetrics
     ensures { result ≡ noted_of metrics wait }
 {
-    match wait {
-        WaitDuration::Hit => CacheMetrics {
-            hits: base::more(metrics.hits),
-            misses: metrics.misses,
-            wait: metrics.wait,
-        },
-        WaitDuration::Miss(time) => CacheMetrics {
-            hits: metrics.hits,
-            misses: base::more(metrics.misses),
-            wait: longer_by(metrics.wait, time),
-        },
-    }
+    let Some(time) = wait else {
+        metrics.hits = base::more(metrics.hits);
+        return metrics;
+    };
+    metrics.misses = base::more(metrics.misses);
+    metrics.wait = longer_by(metrics.wait, time);
+    metrics
 }
 
 // A wait that is too long to be counted.
+#[tactic(auto, unfolding(crate::specs::Metrics::overlong_of))]
 fn overlong(wait: WaitDuration) -> bool
     ensures { result ≡ overlong_of wait }
 {
-    match wait {
-        WaitDuration::Hit => false,
-        WaitDuration::Miss(time) => 60000 < time,
-    }
+    wait.is_some_and(|time| 60000 < time)
 }
 
 // No more readings are counted.
+#[tactic(auto, unfolding(crate::specs::Metrics::full_of))]
 fn full(metrics: CacheMetrics) -> bool
     ensures { result ≡ full_of metrics }
 {
-    16777215 <= metrics.hits as u64 + metrics.misses as u64
+    16777215 <= u64::from(metrics.hits) + u64::from(metrics.misses)
 }
 
 // Whether the box refuses to note this (its refusal 4).
+#[tactic(auto, unfolding(crate::specs::Metrics::refused_of))]
 pub fn refused(metrics: CacheMetrics, wait: WaitDuration) -> bool
     ensures { result ≡ refused_of metrics wait }
 {
-    if overlong(wait) { true } else { full(metrics) }
+    overlong(wait) || full(metrics)
 }

@@ -13,21 +13,13 @@ fn rates_of(table: &[[u64; 8]; 256], elapsed: u64) -> Rates
     ensures { result ≡ rates_from elapsed 0 (table_of table.now) no_rates }
 {
     let mut found = crate::no_rates();
-    let mut i: usize = 0;
-    while i < 256 {
-        let row = table[i];
-        let info = pid_table::rows::unpack(row);
+    for i in 0..256 {
+        let info = pid_table::rows::unpack(table[i]);
         if crate::listed(info) {
             let rate = rate::rate(info.count, elapsed);
-            found = crate::insert(
-                found,
-                Rated {
-                    pid: i as u8,
-                    rate: rate,
-                },
-            );
+            let rated = Rated { pid: i as u8, rate };
+            found = crate::insert(found, rated);
         }
-        i += 1;
     }
     found
 }
@@ -40,8 +32,8 @@ pub fn report_of(table: &[[u64; 8]; 256], metrics: CacheMetrics, elapsed: u64) -
     let hitrate = rate::hit_rate(metrics.hits, metrics.misses);
     Report {
         ran: true,
-        rates: rates,
-        metrics: metrics,
-        hitrate: hitrate,
+        rates,
+        metrics,
+        hitrate,
     }
 }

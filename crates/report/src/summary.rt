@@ -21,11 +21,10 @@ pub struct Summary {
 pub fn none() -> Summary
     ensures { result ≡ no_summary }
 {
-    let metrics = crate::metrics::none();
     Summary {
         ran: false,
         count: 0,
-        metrics: metrics,
+        metrics: crate::metrics::none(),
         hitrate: 0.0,
     }
 }
@@ -45,18 +44,15 @@ pub fn hand_on(report: Report, pids: &mut [u8; 256], rates: &mut [f32; 256]) -> 
         return none();
     }
     let list = report.rates.list;
-    let mut i: usize = 0;
-    while i < 256 {
+    for i in 0..256 {
         let rated = list[i];
         pids[i] = rated.pid;
         rates[i] = rated.rate;
-        i += 1;
     }
-    let metrics = report.metrics;
     Summary {
         ran: true,
         count: report.rates.count,
-        metrics: metrics,
+        metrics: report.metrics,
         hitrate: report.hitrate,
     }
 }
@@ -71,21 +67,18 @@ pub fn report(pids: &[u8; 256], rates: &[f32; 256], summary: Summary) -> Report
         return crate::no_report();
     }
     let mut listed = crate::no_rates();
-    let mut i: usize = 0;
-    while i < 256 {
+    for i in 0..256 {
         let rated = Rated {
             pid: pids[i],
             rate: rates[i],
         };
         listed.list[i] = rated;
-        i += 1;
     }
     listed.count = summary.count;
-    let metrics = summary.metrics;
     Report {
         ran: true,
         rates: listed,
-        metrics: metrics,
+        metrics: summary.metrics,
         hitrate: summary.hitrate,
     }
 }

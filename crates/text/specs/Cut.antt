@@ -1,10 +1,10 @@
 -- Texts cut at a byte: history-format.md, "Tokens are parted by one space". A comma and a colon part a token
 -- in the same way. Two parting bytes in a row have an empty text between them.
-use Rattle.std.specs.Prelude.{Bool, true, false, cond, ◌&&◌, List, [], ◌∷◌, ◌++◌, ◌≡◌, refl, ℕ, suc, ◌+◌, ◌<◌, ◌≤◌, eqb, ltb, nat_eq, length, take, drop, Option, Some, None, unwrap_or}
-use Rattle.std.specs.List.{position_or_len, count_by}
+use Rattle.std.specs.Prelude.{Bool, true, false, cond, ◌&&◌, List, [], ◌∷◌, ◌++◌, ◌≡◌, refl, ℕ, suc, ◌+◌, ◌<◌, ◌≤◌, eqb, ltb, nat_eq, length, get_or, take, drop, Option, Some, None, unwrap_or}
+use Rattle.std.specs.List.{position_or_len}
 use Rattle.std.specs.Cmp.Lexicographic.{pointwise}
-use Rattle.std.proofs.Common.{ap, sym, arith, take_all, eqb-true, ltb-false}
-use Rattle.std.proofs.lemmas.List.Recursion.{is_position_or_len, is_count_by}
+use Rattle.std.proofs.Common.{ap, sym, arith, add-one, take_all, eqb-true, ltb-false}
+use Rattle.std.proofs.lemmas.List.Recursion.{is_position_or_len}
 use Rattle.std.proofs.Math.ListN.{drop_of_length-le}
 use Rattle.std.proofs.Math.Seq.{drop-cons}
 use Rattle.base.specs.Choice.{pick, cases}
@@ -37,7 +37,7 @@ byte_search b = record { none = refl; turn = λ x xs. refl }
 pub place_le : (b : ℕ) (s : List ℕ) → place_of b s ≤ length s
 place_le b s = search_le (byte_search b) s
 
--- The same place, count and test by the words of the library's searches.
+-- The place by the words of the library's search.
 module _ (b : ℕ) where
   place_is : (s : List ℕ) → place_of b s ≡ position_or_len (λ x. eqb x b) s
   unfolding place_of
@@ -53,10 +53,24 @@ module _ (b : ℕ) where
       let m = place_le b s in
       rw (h, e) (omega arith))
 
-  pub times_is : (s : List ℕ) → times b s ≡ count_by (λ x. eqb x b) s
-  unfolding times
-  times_is s = is_count_by (times b) (λ x. eqb x b) refl (λ x xs. cases _ (eqb x b) (λ e. rw e (omega arith)) (λ e. rw e (omega arith))) s
+-- A count from the front: what is left of it at place i.
+abbrev pub Counted : ℕ → List ℕ → ℕ → ℕ → Type 0
+Counted b s i n = times b s ≡ n + times b (drop i s)
 
+module _ (b : ℕ) (s : List ℕ) (i : ℕ) where
+  pub counted_here : (n : ℕ) → i < length s → eqb (get_or s i 0) b ≡ true → Counted b s i n → Counted b s (i + 1) (n + 1)
+  unfolding times
+  counted_here n h e f = let a = rw (drop-cons s i 0 h, e) at f in rw (add-one i) (omega arith)
+
+  pub counted_other : (n : ℕ) → i < length s → eqb (get_or s i 0) b ≡ false → Counted b s i n → Counted b s (i + 1) n
+  unfolding times
+  counted_other n h e f = let a = rw (drop-cons s i 0 h, e) at f in rw (add-one i) (omega arith)
+
+  pub counted_end : (n : ℕ) → length s ≤ i → Counted b s i n → n ≡ times b s
+  unfolding times
+  counted_end n h f = let a = rw (drop_of_length-le s h) at f in omega arith
+
+-- The same text by the library's comparison.
 pub same_is : (xs ys : List ℕ) → pointwise nat_eq xs ys ≡ same_of xs ys
 unfolding same_of
 same_is [] [] = refl

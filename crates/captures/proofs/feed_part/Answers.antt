@@ -16,10 +16,10 @@ used_le r hold input at room f h e =
     omega arith
 
 pub overflow_add-at : goal.overflow_add-at
-overflow_add-at g c = let u = used_le _ _ _ _ _ _ c.loop-more.invariant.0 c.feed-fed.ensures.value in omega arith
+overflow_add-at g c = let u = used_le _ _ _ _ _ _ c.loop-at.invariant.0 c.feed-fed.ensures.value in omega arith
 
-pub loop-more-preserved : goal.loop-more-preserved
-loop-more-preserved g c =
-    let u = used_le _ _ _ _ _ _ c.loop-more.invariant.0 c.feed-fed.ensures.value in
-    let i = c.loop-more.invariant in
+pub loop-at-preserved : goal.loop-at-preserved
+loop-at-preserved g c =
+    let u = used_le _ _ _ _ _ _ c.loop-at.invariant.0 c.feed-fed.ensures.value in
+    let i = c.loop-at.invariant in
     (u, c.feed-fed.auto.hold ∙ i.1)

@@ -11,15 +11,15 @@ loop-i-init c = sym (over_none _ 0)
 pub overflow_mul-out : goal.overflow_mul-out
 overflow_mul-out c =
     let h = pairs_digit c.args.s.now (2 * c.loop-i.i) (omega arith) c.requires.s_value in
-    let e = c.value-high.ensures in
+    let e = c.digit_value-high.ensures in
     omega arith
 
 pub overflow_add-out : goal.overflow_add-out
 overflow_add-out c =
     let h = pairs_digit c.args.s.now (2 * c.loop-i.i) (omega arith) c.requires.s_value in
     let l = pairs_digit c.args.s.now (2 * c.loop-i.i + 1) (omega arith) c.requires.s_value in
-    let e = c.value-high.ensures in
-    let f = c.value-low.ensures in
+    let e = c.digit_value-high.ensures in
+    let f = c.digit_value-low.ensures in
     omega arith
 
 pub loop-i-preserved : goal.loop-i-preserved
@@ -28,7 +28,7 @@ loop-i-preserved c =
     let n = pairs_length c.args.s.now in
     let e = over_next c.args.out.now (pairs c.args.s.now) c.loop-i.i (omega arith) (omega arith) in
     let p = pairs_at c.args.s.now c.loop-i.i (omega arith) in
-    rw (c.value-high.ensures, c.value-low.ensures, c.loop-i.invariant) (rw p at e)
+    rw (c.digit_value-high.ensures, c.digit_value-low.ensures, c.loop-i.invariant) (rw p at e)
 
 pub returns : goal.returns
 returns c =

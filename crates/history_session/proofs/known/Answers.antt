@@ -1,6 +1,5 @@
 -- `history_session::known` meets its contract.
 use mathlib.Core.Path.{sym, ◌∙◌}
-use native.Mathlib.Omega.{arith}
 use Rattle.hex_text.specs.Room.{count_says}
 use Rattle.history_session.specs.Session.{known_table, known_bits, known_other, known_unread}
 use Rattle.history_session.proofs.known.Goals as goal

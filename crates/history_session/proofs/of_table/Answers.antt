@@ -2,7 +2,7 @@
 use mathlib.Core.Bool.{false}
 use Rattle.std.proofs.Common.{rules}
 use Rattle.std.proofs.lemmas.List.FromFn.{fill_by_all}
-use Rattle.history_session.specs.Session.{has_length, bit_in}
+use Rattle.history_session.specs.Session.{has_length}
 use Rattle.history_session.proofs.of_table.Goals as goal
 
 pub returns : goal.returns

@@ -16,7 +16,7 @@ returns-then-crowded c =
       rates_len_2 = search rules;
       pids_unchanged = λ z. refl;
       rates_unchanged = λ z. refl;
-      result_after = rw c.none-nothing.ensures (send_refused a.table.now a.slots.now a.manager a.line a.terms a.event a.pids.now a.rates.now (sym c.crowded.ensures ∙ c.if-crowded.true));
+      result_after = rw c.none.ensures (send_refused a.table.now a.slots.now a.manager a.line a.terms a.event a.pids.now a.rates.now (sym c.crowded.ensures ∙ c.if-crowded.true));
     }
 
 pub returns : goal.returns

@@ -13,7 +13,7 @@ returns-then-rates-ge256 c = rw (le-ltb _ _ c.if-rates-ge256.true)
 
 pub loop-i-init : goal.loop-i-init
 loop-i-init c =
-    (omega arith, refl, carry_start c.args.rates.list c.args.rated c.args.rates.count (search rules))
+    (refl, carry_start c.args.rates.list c.args.rated c.args.rates.count (search rules))
 
 pub loop-i-preserved : goal.loop-i-preserved
 loop-i-preserved c =
@@ -21,7 +21,7 @@ loop-i-preserved c =
     let inv = c.loop-i.invariant in
     let e = c.ahead.ensures in
     let l = c.loop-i.rates.list in
-    elim c.if-ahead.branch [ then-ahead w ↦ (omega arith, rw w.rates-is inv.1, rw (w.rates-is, w.carried-is) (carry_swap s.rates.list s.rated s.rates.count l c.loop-i.carried c.loop-i.i _ (omega arith) (omega arith) (sym e ∙ w.if-ahead.true) inv.2)) | else-ahead w ↦ (omega arith, rw w.rates-is inv.1, rw (w.rates-is, w.carried-is) (carry_pass s.rates.list s.rated s.rates.count l c.loop-i.carried c.loop-i.i _ (omega arith) (omega arith) (sym e ∙ w.if-ahead.false) inv.2)) ]
+    elim c.if-ahead.branch [ then-ahead w ↦ (rw w.rates-is inv.0, rw (w.rates-is, w.carried-is) (carry_swap s.rates.list s.rated s.rates.count l c.loop-i.carried c.loop-i.i _ (omega arith) (omega arith) (sym e ∙ w.if-ahead.true) inv.1)) | else-ahead w ↦ (rw w.rates-is inv.0, rw (w.rates-is, w.carried-is) (carry_pass s.rates.list s.rated s.rates.count l c.loop-i.carried c.loop-i.i _ (omega arith) (omega arith) (sym e ∙ w.if-ahead.false) inv.1)) ]
 
 pub returns : goal.returns
 returns c =
@@ -29,4 +29,4 @@ returns c =
     let inv = c.loop-i.invariant in
     let l = c.loop-i.rates.list in
     let e : c.loop-i.i ≡ s.rates.count = omega arith in
-    rw inv.1 (rw e at (carry_end s.rates s.rated l c.loop-i.carried c.loop-i.i (omega arith) (sym e) inv.2))
+    rw inv.0 (rw e at (carry_end s.rates s.rated l c.loop-i.carried c.loop-i.i (omega arith) (sym e) inv.1))

@@ -4,4 +4,4 @@ use Rattle.report.proofs.no_report.Goals as goal
 
 pub returns : goal.returns
 unfolding no_report of_bits
-returns c = rw (c.no_rates-rates.ensures, c.none-metrics.ensures)
+returns c = rw (c.no_rates.ensures, c.none.ensures)

@@ -23,23 +23,23 @@ returns-then-not-report c =
 pub loop-i-init : goal.loop-i-init
 loop-i-init c =
     let n : length c.args.report.rates.list ≡ 256 = search rules in
-    (omega arith, n, (simp length-map (c.requires.pids_len ∙ sym n), refl), (simp length-map (c.requires.rates_len ∙ sym n), refl))
+    (n, (simp length-map (c.requires.pids_len ∙ sym n), refl), (simp length-map (c.requires.rates_len ∙ sym n), refl))
 
 pub loop-i-preserved : goal.loop-i-preserved
 loop-i-preserved c =
     let xs = c.args.report.rates.list in
     let i = c.loop-i.i in
     let inv = c.loop-i.invariant in
-    let n = inv.1 in
-    (omega arith, n, filled_next (pids_of xs) c.loop-i.pids i _ _ (rw length-map (omega arith)) (sym (pids_at _ xs i)) inv.2, filled_next (rates_of xs) c.loop-i.rates i _ _ (rw length-map (omega arith)) (sym (rates_at _ xs i)) inv.3)
+    let n = inv.0 in
+    (n, filled_next (pids_of xs) c.loop-i.pids i _ _ (rw length-map (omega arith)) (sym (pids_at _ xs i)) inv.1, filled_next (rates_of xs) c.loop-i.rates i _ _ (rw length-map (omega arith)) (sym (rates_at _ xs i)) inv.2)
 
 pub returns : goal.returns
 returns c =
     let r = c.args.report in
     let e = not-false r.ran c.if-not-report.false in
-    let n = c.loop-i.invariant.1 in
-    let f = filled_end (pids_of r.rates.list) c.loop-i.pids c.loop-i.i (rw length-map (omega arith)) c.loop-i.invariant.2 in
-    let g = filled_end (rates_of r.rates.list) c.loop-i.rates c.loop-i.i (rw length-map (omega arith)) c.loop-i.invariant.3 in
+    let n = c.loop-i.invariant.0 in
+    let f = filled_end (pids_of r.rates.list) c.loop-i.pids c.loop-i.i (rw length-map (omega arith)) c.loop-i.invariant.1 in
+    let g = filled_end (rates_of r.rates.list) c.loop-i.rates c.loop-i.i (rw length-map (omega arith)) c.loop-i.invariant.2 in
     let h = handed r c.loop-i.pids c.loop-i.rates e f g ∙ ap (λ (b : Bool). pick b r no_report) (sym e) in
     record {
       pids_len_2 = rw f (simp length-map n);

@@ -4,4 +4,4 @@ use Rattle.report.proofs.summary.none.Goals as goal
 
 pub returns : goal.returns
 unfolding no_summary of_bits
-returns c = rw c.none-metrics.ensures
+returns c = rw c.none.ensures

@@ -15,7 +15,7 @@ returns-then-not-summary c =
 pub loop-i-init : goal.loop-i-init
 loop-i-init c =
     let n = rated_length c.args.pids.now c.args.rates.now (c.requires.pids_len ∙ sym c.requires.rates_len) in
-    (omega arith, (ap (λ (r : Rates). length r.list) c.no_rates-listed.ensures ∙ blank_length ∙ sym (n ∙ c.requires.pids_len), refl))
+    (ap (λ (r : Rates). length r.list) c.no_rates-listed.ensures ∙ blank_length ∙ sym (n ∙ c.requires.pids_len), refl)
 
 pub loop-i-preserved : goal.loop-i-preserved
 loop-i-preserved c =
@@ -25,7 +25,7 @@ loop-i-preserved c =
     let n = c.requires.pids_len in
     let m = c.requires.rates_len in
     let k = rated_length ps rs (n ∙ sym m) in
-    (omega arith, filled_next (rated_in ps rs) c.loop-i.listed.list i _ _ (omega arith) (rated_at _ ps rs i (omega arith) (omega arith)) c.loop-i.invariant.1)
+    (filled_next (rated_in ps rs) c.loop-i.listed.list i _ _ (omega arith) (rated_at _ ps rs i (omega arith) (omega arith)) c.loop-i.invariant)
 
 pub returns : goal.returns
 returns c =
@@ -34,4 +34,4 @@ returns c =
     let n = c.requires.pids_len in
     let k = rated_length ps rs (n ∙ sym c.requires.rates_len) in
     let e = not-false c.args.summary.ran c.if-not-summary.false in
-    report_is ps rs c.args.summary c.loop-i.listed.list e (filled_end (rated_in ps rs) c.loop-i.listed.list c.loop-i.i (omega arith) c.loop-i.invariant.1)
+    report_is ps rs c.args.summary c.loop-i.listed.list e (filled_end (rated_in ps rs) c.loop-i.listed.list c.loop-i.i (omega arith) c.loop-i.invariant)

@@ -1,9 +1,5 @@
-use Prim.Native.Nat.{◌≤◌, ◌-◌}
 use Rattle.report.specs.Summary.{Filled, rated_in}
 use Rattle.report.proofs.summary.report.Given as goal
 
 abbrev pub invariant-loop-i : goal.invariant-loop-i
-invariant-loop-i l = (l.i ≤ 256) × Filled (rated_in l.pids l.rates) l.listed.list l.i
-
-abbrev pub decreases-loop-i : goal.decreases-loop-i
-decreases-loop-i l = 256 - l.i
+invariant-loop-i l = Filled (rated_in l.pids l.rates) l.listed.list l.i
