@@ -1,6 +1,5 @@
 -- Each definition of `Rules`, case by case: what the proofs of the functions and of the laws cite.
-use Rattle.std.specs.Prelude.{is_some}
-use Rattle.std.specs.Prelude.{◌≡◌, ℕ, true, false, ltb, List, [], length, ◌==◌, ◌≢◌, nat_lt, slice_index_or}
+use Rattle.std.specs.Prelude.{is_some, Option, None, ◌≡◌, ℕ, true, false, ltb, List, [], length, ◌==◌, ◌≢◌, nat_lt, slice_index_or}
 use Rattle.std.proofs.Math.Path.{refl, ap, sym}
 use Rattle.std.proofs.Common.{◌∙◌, arith}
 use borrow.Author.Tests.{ne_eqb, eqb-true, le-ltb}
@@ -11,10 +10,9 @@ use Rattle.command.specs.Classify.{command_of}
 use Rattle.command.specs.declared.Command.TheVariants as command
 use Rattle.desk.specs.Rules.{registered, client_of, fresh, wait_of, stored, put_client}
 use Rattle.desk.specs.declared.Desk.{Desk}
-use Rattle.reply.specs.Rules.{empty_reply, no_range, size_of, filled_of}
+use Rattle.reply.specs.Rules.{empty_reply, no_range, present, reply_of, size_of, filled_of}
 use Rattle.reply.specs.Laws.{size_empty}
 use Rattle.reply.specs.declared.Reply.{Reply}
-use Rattle.reply.specs.declared.RangeReply.{RangeReply}
 use Rattle.cache.specs.Rules.{range_count, range_of, range_step, command_step, step_of, refused_ask, told_of, settled, filled_by, other_refusal, other_of, other_area, answer_of, handed_of, after_ask, busy, ask_refusal, ask_of, Tells, ask_area}
 use Rattle.cache.specs.declared.Step.{Step}
 use Rattle.cache.specs.declared.Step.TheVariants.{Disconnected, Empty, Unclear, Stored, ToCache}
@@ -22,29 +20,29 @@ use Rattle.cache.specs.declared.Answer.{Answer}
 use Rattle.cache.specs.declared.Answer.TheVariants.{Reading, Waiting}
 use Rattle.cache.specs.declared.Asked.{Asked}
 
-module _ (rs : List RangeReply) (n : ℕ) where
+module _ (rs : List (Option Reply)) (n : ℕ) where
   pub range_within : ltb n range_count ≡ true → range_of rs n ≡ slice_index_or rs n no_range
   unfolding range_of
   range_within e = rw e
 
-  pub range_past : ltb n range_count ≡ false → range_of rs n ≡ record { present = false; reply = empty_reply }
+  pub range_past : ltb n range_count ≡ false → range_of rs n ≡ None
   unfolding range_of
   range_past e = rw e
 
-module _ (n : ℕ) (r : RangeReply) where
-  pub range_absent : r.present ≡ false → range_step n r ≡ Disconnected
+module _ (n : ℕ) (r : Option Reply) where
+  pub range_absent : present r ≡ false → range_step n r ≡ Disconnected
   unfolding range_step
   range_absent e = rw e
 
-  pub range_empty : r.present ≡ true → (r.reply.lines == 0) ≡ true → range_step n r ≡ Empty
+  pub range_empty : present r ≡ true → ((reply_of r).lines == 0) ≡ true → range_step n r ≡ Empty
   unfolding range_step
   range_empty e f = rw (e, f)
 
-  pub range_stored : r.present ≡ true → (r.reply.lines == 0) ≡ false → range_step n r ≡ Stored n
+  pub range_stored : present r ≡ true → ((reply_of r).lines == 0) ≡ false → range_step n r ≡ Stored n
   unfolding range_step
   range_stored e f = rw (e, f)
 
-module _ (rs : List RangeReply) (cmd : List ℕ) where
+module _ (rs : List (Option Reply)) (cmd : List ℕ) where
   pub step_off : step_of false rs cmd ≡ Disconnected
   unfolding step_of
   step_off = refl
@@ -94,7 +92,7 @@ module _ (d : Desk) (c : ℕ) (out : Reply) (n : ℕ) where
   other_none e f = rw (e, f)
 
 -- An ask for a PID: the number of its refusal.
-module _ (d : Desk) (c : ℕ) (rs : List RangeReply) (p n : ℕ) where
+module _ (d : Desk) (c : ℕ) (rs : List (Option Reply)) (p n : ℕ) where
   pub refusal_stranger : registered d c ≡ false → ask_refusal d c rs (ToCache p) n ≡ 8
   unfolding ask_refusal first_of
   refusal_stranger e = rw e
@@ -129,7 +127,7 @@ module _ (d : Desk) (c : ℕ) (a : Answer) (out : Reply) (area : List ℕ) where
   unfolding other_of other_area
   other_told e = (sym (settled_accepted _ d _ e), sym (filled_accepted _ out area e))
 
-module _ (d : Desk) (t c : ℕ) (rs : List RangeReply) (s : Step) (area : List ℕ) where
+module _ (d : Desk) (t c : ℕ) (rs : List (Option Reply)) (s : Step) (area : List ℕ) where
   pub ask_refused : (k : ℕ) → (k ≢ 0) → ask_refusal d c rs s (length area) ≡ k
       → (refused_ask k d ≡ ask_of d t c rs s (length area)) × (area ≡ ask_area d c rs s area)
   unfolding ask_of ask_area
@@ -142,7 +140,7 @@ module _ (d : Desk) (t c : ℕ) (rs : List RangeReply) (s : Step) (area : List �
   ask_told e = (sym (settled_accepted _ d _ e), sym (filled_accepted _ _ area e))
 
 -- A fresh reply that is taken, and a wait that begins.
-module _ (d : Desk) (t c p : ℕ) (rs : List RangeReply) where
+module _ (d : Desk) (t c p : ℕ) (rs : List (Option Reply)) where
   pub after_reading : fresh d c p ≡ true
       → told_of (put_client d c (taken_of p (client_of d c))) (Reading p) (stored d p) ≡ told_of (after_ask d t c (ToCache p)) (answer_of d c (ToCache p)) (handed_of d c rs (ToCache p))
   unfolding after_ask answer_of handed_of
@@ -161,7 +159,7 @@ module _ (d : Desk) (t c p : ℕ) (rs : List RangeReply) where
   unfolding handed_of
   handed_waiting e = rw e
 
-module _ (d : Desk) (t c : ℕ) (rs : List RangeReply) (s : Step) (n : ℕ) where
+module _ (d : Desk) (t c : ℕ) (rs : List (Option Reply)) (s : Step) (n : ℕ) where
   pub ask_refusal_law : (ask_of d t c rs s n).refusal ≡ ask_refusal d c rs s n
   unfolding ask_of settled
   ask_refusal_law = cases _ (ask_refusal d c rs s n == 0)
@@ -173,13 +171,13 @@ module _ (d : Desk) (t c : ℕ) (rs : List RangeReply) (s : Step) (n : ℕ) wher
   unfolding ask_of ask_refusal other_of other_refusal first_of
   ask_other e f = rw (e, f)
 
-pub area_other : (d : Desk) (c : ℕ) (rs : List RangeReply) (s : Step) (area : List ℕ) → busy d c s ≡ false
+pub area_other : (d : Desk) (c : ℕ) (rs : List (Option Reply)) (s : Step) (area : List ℕ) → busy d c s ≡ false
     → ask_area d c rs s area ≡ other_area d c (handed_of d c rs s) area
 unfolding ask_area ask_refusal other_area other_refusal first_of
 area_other d c rs s area e = rw e
 
 -- What `ask` promises of its result r and of the area it leaves, once the command's step s is known to be u.
-module _ (r : Asked) (out : List ℕ) (d : Desk) (t c : ℕ) (rs : List RangeReply) (s : Step) (area : List ℕ) (u : Step) (q : s ≡ u) where
+module _ (r : Asked) (out : List ℕ) (d : Desk) (t c : ℕ) (rs : List (Option Reply)) (s : Step) (area : List ℕ) (u : Step) (q : s ≡ u) where
   abbrev Promised : Type 0
   Promised =
       (r ≡ ask_of d t c rs s (length area))
@@ -198,7 +196,7 @@ module _ (r : Asked) (out : List ℕ) (d : Desk) (t c : ℕ) (rs : List RangeRep
       (f ∙ ap (λ (x : Reply). other_area d c x area) h ∙ sym (area_other d c rs u area b) ∙ ap (λ (x : Step). ask_area d c rs x area) (sym q))
 
 -- An ask for a PID has nothing to do with the ranges.
-module _ (r : Asked) (out : List ℕ) (d : Desk) (t c : ℕ) (rs : List RangeReply) (s : Step) (area : List ℕ) (p : ℕ) (q : s ≡ ToCache p) where
+module _ (r : Asked) (out : List ℕ) (d : Desk) (t c : ℕ) (rs : List (Option Reply)) (s : Step) (area : List ℕ) (p : ℕ) (q : s ≡ ToCache p) where
   pub promised_cache : r ≡ ask_of d t c [] (ToCache p) (length area) → out ≡ ask_area d c [] (ToCache p) area → Promised r out d t c rs s area (ToCache p) q
   unfolding ask_of ask_area ask_refusal handed_of
   promised_cache e f =

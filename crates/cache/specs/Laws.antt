@@ -19,8 +19,8 @@ use Rattle.desk.specs.Laws.{client_number, put_after}
 use Rattle.desk.specs.Sound.{Sound}
 use Rattle.desk.specs.declared.Desk.{Desk}
 use Rattle.reply.specs.Laws.{filled_long}
-use Rattle.reply.specs.Rules.{size_of, joined_of}
-use Rattle.reply.specs.declared.RangeReply.{RangeReply}
+use Rattle.reply.specs.declared.Reply.{Reply}
+use Rattle.reply.specs.Rules.{present, reply_of, size_of, joined_of}
 use Rattle.cache.specs.Rules.{hands_out, settled, answer_of, handed_of, after_ask, busy, ask_refusal, ask_of, ask_area, range_of, range_step, command_step, step_of, wait_after}
 use Rattle.cache.specs.After.{AfterAnswer, Handed}
 use Rattle.cache.specs.Cases.{ask_refused, ask_told}
@@ -104,7 +104,7 @@ module _ (d : Desk) (s : Sound d) (t c : ℕ) where
   told_after r (Stored n) = quiet Range (λ p. refl) (λ w. refl)
   told_after r (ToCache p) = cases _ (fresh d c p) (λ e. rw e (reading_after r p)) (λ e. rw e (waiting_after r p))
 
-module _ (d : Desk) (t c : ℕ) (rs : List RangeReply) (st : Step) (n : ℕ) where
+module _ (d : Desk) (t c : ℕ) (rs : List (Option Reply)) (st : Step) (n : ℕ) where
   -- An ask that is accepted comes from a registered client.
   pub ask_registered : ask_refusal d c rs st n ≡ 0 → registered d c ≡ true
   unfolding ask_refusal
@@ -120,7 +120,7 @@ module _ (d : Desk) (t c : ℕ) (rs : List RangeReply) (st : Step) (n : ℕ) whe
   unfolding ask_of settled
   ask_unchanged h = rw (ne_eqb (ask_refusal d c rs st n) 0 h)
 
-pub ask_hands : (d : Desk) (c : ℕ) (rs : List RangeReply) (st : Step) (p : ℕ) → hands_out (answer_of d c st) p ≡ true → Handed d c rs st p
+pub ask_hands : (d : Desk) (c : ℕ) (rs : List (Option Reply)) (st : Step) (p : ℕ) → hands_out (answer_of d c st) p ≡ true → Handed d c rs st p
 unfolding answer_of handed_of
 ask_hands d c rs Disconnected p h = never false h refl
 ask_hands d c rs Empty p h = never false h refl
@@ -131,7 +131,7 @@ ask_hands d c rs (ToCache q) p h = cases _ (fresh d c q)
     (λ e. never false (rw e at h) refl)
 
 -- The lent area: a refused ask leaves every byte, an accepted one fills the start with the reply, which fits.
-module _ (d : Desk) (t c : ℕ) (rs : List RangeReply) (st : Step) (area : List ℕ) where
+module _ (d : Desk) (t c : ℕ) (rs : List (Option Reply)) (st : Step) (area : List ℕ) where
   ask_fits : ask_refusal d c rs st (length area) ≡ 0 → size_of (handed_of d c rs st) ≤ length area
   unfolding ask_refusal
   ask_fits e =
@@ -149,21 +149,21 @@ module _ (d : Desk) (t c : ℕ) (rs : List RangeReply) (st : Step) (area : List 
   ask_untouched h = sym (ask_refused d t c rs st area (ask_refusal d c rs st (length area)) h refl).1
 
 -- A command goes to the cache exactly where there is a connection and it asks for a PID.
-range_not_cache : (n p : ℕ) (r : RangeReply) → range_step n r ≢ ToCache p
+range_not_cache : (n p : ℕ) (r : Option Reply) → range_step n r ≢ ToCache p
 unfolding range_step
-range_not_cache n p r h = cases _ r.present
-    (λ e. cases _ (r.reply.lines == 0)
+range_not_cache n p r h = cases _ (present r)
+    (λ e. cases _ ((reply_of r).lines == 0)
     (λ f. let a = rw (e, f) at h in let z : ◌≡◌ {A = ℕ} 0 1 = cc in omega arith)
     (λ f. let a = rw (e, f) at h in let z : ◌≡◌ {A = ℕ} 0 1 = cc in omega arith))
     (λ e. let a = rw e at h in let z : ◌≡◌ {A = ℕ} 0 1 = cc in omega arith)
 
-command_pid : (rs : List RangeReply) (k : Command) (p : ℕ) → command_step rs k ≡ ToCache p → k ≡ command.Pid p
+command_pid : (rs : List (Option Reply)) (k : Command) (p : ℕ) → command_step rs k ≡ ToCache p → k ≡ command.Pid p
 unfolding command_step
 command_pid rs (command.Range n) p h = absurd (range_not_cache n p (range_of rs n) h)
 command_pid rs (command.Pid q) p h = cc
 command_pid rs command.Unknown p h = cc
 
-pub step_cache : (up : Bool) (rs : List RangeReply) (cmd : List ℕ) (p : ℕ) → step_of up rs cmd ≡ ToCache p → (up ≡ true) × (command_of cmd ≡ command.Pid p)
+pub step_cache : (up : Bool) (rs : List (Option Reply)) (cmd : List ℕ) (p : ℕ) → step_of up rs cmd ≡ ToCache p → (up ≡ true) × (command_of cmd ≡ command.Pid p)
 unfolding step_of
 step_cache true rs cmd p h = (refl, command_pid rs (command_of cmd) p h)
 step_cache false rs cmd p h = (cc, cc)

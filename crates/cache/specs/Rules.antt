@@ -1,6 +1,5 @@
 -- Ask (document 01, "Commands (desk)" and "Client cache"). Collect and give up are `waits`'.
-use Rattle.std.specs.Prelude.{is_some}
-use Rattle.std.specs.Prelude.{Option, Some, ◌≡◌, ℕ, Bool, false, not, List, [], ◌∷◌, length, take, replicate, ◌==◌, nat_lt, slice_index_or}
+use Rattle.std.specs.Prelude.{is_some, Option, Some, ◌≡◌, ℕ, Bool, false, not, List, [], ◌∷◌, length, take, replicate, ◌==◌, nat_lt, slice_index_or}
 use Rattle.base.specs.Choice.{pick}
 use Rattle.base.specs.Refusal.{Rows, first_of}
 use Rattle.clients.specs.Rules.{taken_of, waiting_of}
@@ -10,9 +9,8 @@ use Rattle.command.specs.declared.Command.{Command}
 use Rattle.command.specs.declared.Command.TheVariants as command
 use Rattle.desk.specs.Rules.{registered, client_of, fresh, wait_of, stored, put_client}
 use Rattle.desk.specs.declared.Desk.{Desk}
-use Rattle.reply.specs.Rules.{max_lines, empty_reply, absent_range, no_range, size_of, filled_of}
+use Rattle.reply.specs.Rules.{max_lines, empty_reply, absent_range, no_range, present, reply_of, size_of, filled_of}
 use Rattle.reply.specs.declared.Reply.{Reply}
-use Rattle.reply.specs.declared.RangeReply.{RangeReply}
 use Rattle.cache.specs.declared.Step.{Step}
 use Rattle.cache.specs.declared.Step.TheVariants.{Disconnected, Empty, Unclear, Stored, ToCache}
 use Rattle.cache.specs.declared.Answer.{Answer}
@@ -41,19 +39,19 @@ wait_after t Range w = w
 abbrev pub range_count : ℕ
 range_count = 8
 
-unfoldable pub range_of : List RangeReply → ℕ → RangeReply
+unfoldable pub range_of : List (Option Reply) → ℕ → Option Reply
 range_of rs n = pick (nat_lt n range_count) (slice_index_or rs n no_range) absent_range
 
 -- The steps, in order: no connection, or ranges not ready; a range's stored reply, absent or without lines; not understood; a PID.
-unfoldable pub range_step : ℕ → RangeReply → Step
-range_step n r = pick r.present (pick (r.reply.lines == 0) Empty (Stored n)) Disconnected
+unfoldable pub range_step : ℕ → Option Reply → Step
+range_step n r = pick (present r) (pick ((reply_of r).lines == 0) Empty (Stored n)) Disconnected
 
-unfoldable pub command_step : List RangeReply → Command → Step
+unfoldable pub command_step : List (Option Reply) → Command → Step
 command_step rs (command.Range n) = range_step n (range_of rs n)
 command_step rs (command.Pid p) = ToCache p
 command_step rs command.Unknown = Unclear
 
-unfoldable pub step_of : Bool → List RangeReply → List ℕ → Step
+unfoldable pub step_of : Bool → List (Option Reply) → List ℕ → Step
 step_of connected rs cmd = pick connected (command_step rs (command_of cmd)) Disconnected
 
 -- A refused ask: its number. The answer beside it is a place holder.
@@ -89,11 +87,11 @@ answer_of d c Unclear = Unknown
 answer_of d c (Stored n) = Range
 answer_of d c (ToCache p) = pick (fresh d c p) (Reading p) (Waiting p)
 
-unfoldable pub handed_of : Desk → ℕ → List RangeReply → Step → Reply
+unfoldable pub handed_of : Desk → ℕ → List (Option Reply) → Step → Reply
 handed_of d c rs Disconnected = empty_reply
 handed_of d c rs Empty = empty_reply
 handed_of d c rs Unclear = empty_reply
-handed_of d c rs (Stored n) = (range_of rs n).reply
+handed_of d c rs (Stored n) = reply_of (range_of rs n)
 handed_of d c rs (ToCache p) = pick (fresh d c p) (stored d p) empty_reply
 
 unfoldable pub after_ask : Desk → ℕ → ℕ → Step → Desk
@@ -113,13 +111,13 @@ busy d c (Stored n) = false
 busy d c (ToCache p) = is_some (wait_of d c)
 
 -- An ask with a lent area of n bytes.
-abbrev pub ask_rows : Desk → ℕ → List RangeReply → Step → ℕ → Rows
+abbrev pub ask_rows : Desk → ℕ → List (Option Reply) → Step → ℕ → Rows
 ask_rows d c rs s n = (8, not (registered d c)) ∷ (9, busy d c s) ∷ (14, nat_lt n (size_of (handed_of d c rs s))) ∷ []
 
-unfoldable pub ask_refusal : Desk → ℕ → List RangeReply → Step → ℕ → ℕ
+unfoldable pub ask_refusal : Desk → ℕ → List (Option Reply) → Step → ℕ → ℕ
 ask_refusal d c rs s n = first_of (ask_rows d c rs s n)
 
-unfoldable pub ask_of : Desk → ℕ → ℕ → List RangeReply → Step → ℕ → Asked
+unfoldable pub ask_of : Desk → ℕ → ℕ → List (Option Reply) → Step → ℕ → Asked
 ask_of d t c rs s n =
     settled (ask_refusal d c rs s n) d (told_of (after_ask d t c s) (answer_of d c s) (handed_of d c rs s))
 
@@ -133,10 +131,10 @@ values_of (Reading p) ls = p ∷ ls
 values_of (Waiting p) ls = p ∷ []
 
 -- What an ask answers has document 01's number and, where the ask is accepted, these values.
-pub record Tells (d : Desk) (c : ℕ) (rs : List RangeReply) (s : Step) (n : ℕ) (r : Asked) : Type 0 where
+pub record Tells (d : Desk) (c : ℕ) (rs : List (Option Reply)) (s : Step) (n : ℕ) (r : Asked) : Type 0 where
   pub number : r.refusal ≡ ask_refusal d c rs s n
   pub values : ask_refusal d c rs s n ≡ 0
       → let y = handed_of d c rs s in values_of r.answer (take r.lines r.lengths) ≡ values_of (answer_of d c s) (take y.lines y.lengths)
 
-unfoldable pub ask_area : Desk → ℕ → List RangeReply → Step → List ℕ → List ℕ
+unfoldable pub ask_area : Desk → ℕ → List (Option Reply) → Step → List ℕ → List ℕ
 ask_area d c rs s area = filled_by (ask_refusal d c rs s (length area)) (handed_of d c rs s) area

@@ -9,8 +9,8 @@ ghost use Rattle.cache.specs.Asking.{not_told, told, asked_in};
 use super::{Answer, RANGES, Step};
 use clients::PLACES;
 use desk::rest::Core;
+use reply::Reply;
 use reply::rows::ROW;
-use reply::{RangeReply, Reply};
 
 // The refusal is document 01's number, 0 where the ask is accepted. The lines' lengths are of the reply that stands at
 // the start of the lent area, none where the answer has no reply.
@@ -111,7 +111,7 @@ pub fn ask(
     cmd: &[u8],
     area: &mut [u8],
     connected: bool,
-    ranges: [RangeReply; RANGES],
+    ranges: [Option<Reply>; RANGES],
 ) -> Told
     requires { length marks.old ≡ places }
     ensures marks_len { length marks.new ≡ places }
@@ -127,7 +127,7 @@ pub fn ask(
         Step::Unclear => ask_other(core, number, Answer::Unknown, nothing, area),
         Step::Stored(n) => {
             let found = super::range(ranges, n);
-            let out = found.reply;
+            let out = found.unwrap_or(nothing);
             ask_other(core, number, Answer::Range, out, area)
         }
         Step::ToCache(pid) => ask_cache(replies, marks, core, time, number, pid, area),

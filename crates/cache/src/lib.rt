@@ -8,7 +8,7 @@ ghost use Rattle.cache.specs.Rules.{range_of, range_step, step_of};
 
 use command::Command;
 use desk::Desk;
-use reply::RangeReply;
+use reply::Reply;
 
 // The range queries, 0100 to 01E0.
 const RANGES: usize = 8;
@@ -50,34 +50,26 @@ pub struct Asked {
 }
 
 // A range's stored reply. A number that is no range's has none.
-fn range(ranges: [RangeReply; RANGES], n: u8) -> RangeReply
+#[tactic(auto, unfolding(crate::specs::Rules::range_of))]
+fn range(ranges: [Option<Reply>; RANGES], n: u8) -> Option<Reply>
     ensures { result ≡ range_of ranges n }
 {
     let i = n as usize;
-    if i < RANGES {
-        return ranges[i];
-    }
-    let nothing = reply::empty();
-    RangeReply {
-        present: false,
-        reply: nothing,
-    }
+    if i < RANGES { ranges[i] } else { None }
 }
 
-fn range_step(n: u8, found: RangeReply) -> Step
+#[tactic(auto, unfolding(crate::specs::Rules::range_step))]
+fn range_step(n: u8, found: Option<Reply>) -> Step
     ensures { result ≡ range_step n found }
 {
-    if !found.present {
-        return Step::Disconnected;
+    match found {
+        None => Step::Disconnected,
+        Some(reply) if reply.lines == 0 => Step::Empty,
+        Some(_) => Step::Stored(n),
     }
-    let reply = found.reply;
-    if reply.lines == 0 {
-        return Step::Empty;
-    }
-    Step::Stored(n)
 }
 
-fn first_step(connected: bool, ranges: [RangeReply; RANGES], cmd: &[u8]) -> Step
+fn first_step(connected: bool, ranges: [Option<Reply>; RANGES], cmd: &[u8]) -> Step
     ensures { result ≡ step_of connected ranges cmd.now }
 {
     if !connected {

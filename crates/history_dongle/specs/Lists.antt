@@ -2,7 +2,7 @@
 -- token makes the list bad.
 use Rattle.std.specs.Prelude.{false, List, [], ◌∷◌, ℕ, ◌+◌, eqb, ltb, set, replicate, Option, Some, None}
 use Rattle.base.specs.Choice.{pick}
-use Rattle.reply.specs.declared.RangeReply.{RangeReply}
+use Rattle.reply.specs.declared.Reply.{Reply}
 use Rattle.link.specs.Rules.{no_ranges}
 use Rattle.rounds.specs.declared.Learnt.{Learnt}
 use Rattle.history_items.specs.Items.{given}
@@ -16,17 +16,17 @@ unfoldable pub no_learnt : List Learnt
 no_learnt = replicate 6 (record { ecu = 0; known = false })
 
 -- RANGE.., eight of them
-unfoldable pub range_onto : RangesRead → RangeReply → RangesRead
+unfoldable pub range_onto : RangesRead → Option Reply → RangesRead
 range_onto x r = record { ranges = pick (ltb x.count 8) (set x.ranges x.count r) x.ranges; count = x.count + 1 }
 
-abbrev pub eight : RangesRead → Option (List RangeReply)
+abbrev pub eight : RangesRead → Option (List (Option Reply))
 eight x = pick (eqb x.count 8) (Some x.ranges) None
 
-unfoldable pub ranges_from : RangesRead → List (List ℕ) → Option (List RangeReply)
+unfoldable pub ranges_from : RangesRead → List (List ℕ) → Option (List (Option Reply))
 ranges_from x [] = eight x
 ranges_from x (t ∷ ts) = given (range_of t) (λ r. ranges_from (range_onto x r) ts)
 
-abbrev pub ranges_of : List (List ℕ) → Option (List RangeReply)
+abbrev pub ranges_of : List (List ℕ) → Option (List (Option Reply))
 ranges_of ts = ranges_from (record { ranges = no_ranges; count = 0 }) ts
 
 -- LEARNT..

@@ -7,13 +7,13 @@ ghost use Rattle.history_items.specs.Items.{items_of};
 ghost use Rattle.history_dongle.specs.Lists.{no_learnt, range_onto, learnt_onto, ranges_of, learnts_of};
 
 use history_items::Items;
-use reply::RangeReply;
+use reply::Reply;
 use rounds::Learnt;
 
 // The ranges, and how many tokens there are. An array with its count, since the box runs in fixed memory.
 #[derive(Clone, Copy)]
 struct RangesRead {
-    ranges: [RangeReply; 8],
+    ranges: [Option<Reply>; 8],
     count: usize,
 }
 
@@ -37,7 +37,7 @@ pub fn nothing_learnt() -> [Learnt; 6]
 }
 
 #[tactic(auto, unfolding(crate::specs::Lists::range_onto))]
-fn add_range(mut read: RangesRead, r: RangeReply) -> RangesRead
+fn add_range(mut read: RangesRead, r: Option<Reply>) -> RangesRead
     requires { read.count < 18446744073709551615 }
     ensures { result ≡ range_onto read r }
 {
@@ -66,7 +66,7 @@ fn add_learnt(mut read: LearntRead, l: Learnt) -> LearntRead
 
 // Eight of them, neither fewer nor more.
 #[tactic(auto, using(history_items::specs::Items::items_most), unfolding(crate::specs::Lists::ranges_from, crate::specs::Lists::range_onto))]
-pub fn ranges(s: &[u8]) -> Option<[RangeReply; 8]>
+pub fn ranges(s: &[u8]) -> Option<[Option<Reply>; 8]>
     ensures { result ≡ ranges_of (items_of 32 s.now) }
 {
     let mut read = RangesRead {

@@ -23,7 +23,6 @@ use Rattle.hex_text.specs.declared.Unread.{Unread}
 use Rattle.reply.specs.Rules.{empty_reply}
 use Rattle.reply.specs.declared.Reply.{Reply}
 use Rattle.history_items.specs.Items.{given, items_of, more_of}
-use Rattle.reply.specs.declared.RangeReply.{RangeReply}
 use Rattle.history_replies.specs.declared.PidReply.{PidReply}
 use Rattle.history_replies.specs.declared.Placed.{Placed}
 use Rattle.history_replies.specs.declared.Filled.{Filled}
@@ -81,14 +80,11 @@ unfoldable pub reply_of : List ℕ → Option PidReply
 reply_of s = pick (ltb (length s) 2) None (given (pid_of (take 2 s)) (λ p. option_map (λ r. record { reply = r; pid = p }) (lines_of (drop 2 s))))
 
 -- "`-` absent, `.` without lines, else `:LINE,LINE..`"
-abbrev pub with_lines : Bool → Reply → RangeReply
-with_lines present r = record { present = present; reply = r }
-
-unfoldable pub range_of : List ℕ → Option RangeReply
+unfoldable pub range_of : List ℕ → Option (Option Reply)
 range_of s =
-    pick (same_of s (letters "-")) (Some (with_lines false empty_reply))
-    (pick (same_of s (letters ".")) (Some (with_lines true empty_reply))
-    (pick (eqb (length s) 0) None (option_map (with_lines true) (lines_of s))))
+    pick (same_of s (letters "-")) (Some None)
+    (pick (same_of s (letters ".")) (Some (Some empty_reply))
+    (pick (eqb (length s) 0) None (option_map (λ r. Some r) (lines_of s))))
 
 -- Pairs put through the part that is lent.
 module _ (d : List ℕ) (at : ℕ) (s p : List ℕ) (h : at ≤ 64) (n : length d ≡ 64) where

@@ -7,7 +7,7 @@ ghost use Rattle.history_replies.specs.Replies.{placed_of, filled_of, short_of, 
 
 use hex_text::Unread;
 use history_items::Items;
-use reply::{MAX_BYTES, MAX_LINES, RangeReply, Reply};
+use reply::{MAX_BYTES, MAX_LINES, Reply};
 
 // A PID and its reply.
 #[derive(Clone, Copy)]
@@ -150,27 +150,18 @@ pub fn reply(s: &[u8]) -> Option<PidReply>
 }
 
 #[tactic(auto, unfolding(crate::specs::Replies::range_of))]
-pub fn range(s: &[u8]) -> Option<RangeReply>
+pub fn range(s: &[u8]) -> Option<Option<Reply>>
     ensures { result ≡ range_of s.now }
 {
     if text::is(s, b"-") {
-        return Some(RangeReply {
-            present: false,
-            reply: reply::empty(),
-        });
+        return Some(None);
     }
     if text::is(s, b".") {
-        return Some(RangeReply {
-            present: true,
-            reply: reply::empty(),
-        });
+        return Some(Some(reply::empty()));
     }
     if s.len() == 0 {
         return None;
     }
     let reply = lines(s)?;
-    Some(RangeReply {
-        present: true,
-        reply,
-    })
+    Some(Some(reply))
 }

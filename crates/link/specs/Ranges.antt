@@ -1,41 +1,39 @@
 -- What the eight range queries brought, as rows of numbers, as they are lent.
-use Rattle.std.specs.Prelude.{Bool, true, false, not, List, [], ◌∷◌, ◌++◌, map, ◌≡◌, refl, ℕ, ◌+◌, ◌≤◌, eqb, get_or, set, length, drop, replicate}
+use Rattle.std.specs.Prelude.{Option, Some, None, List, [], ◌∷◌, ◌++◌, map, ◌≡◌, refl, ℕ, ◌+◌, ◌≤◌, eqb, get_or, set, length, drop, replicate}
 use Rattle.std.proofs.Common.{append-nil, arith, drop_of_length-le}
 use Rattle.std.proofs.lemmas.List.{length-map, length-replicate}
 use Rattle.std.proofs.Math.ListN.{get_or-map}
+use Rattle.base.specs.Choice.{pick}
 use Rattle.base.specs.Each.{map_set, map_replicate}
 use Rattle.base.specs.Write.{over}
 use Rattle.reply.specs.Rows.{row_size, zeros, reply_in}
 use Rattle.reply.specs.Rules.{no_range}
-use Rattle.reply.specs.declared.RangeReply.{RangeReply}
+use Rattle.reply.specs.declared.Reply.{Reply}
 use Rattle.link.specs.Rules.{no_ranges}
-
-abbrev pub bit_of : Bool → ℕ
-bit_of true = 1
-bit_of false = 0
-
-bit_back : (b : Bool) → not (eqb (bit_of b) 0) ≡ b
-bit_back true = refl
-bit_back false = refl
 
 -- How long a row is.
 abbrev pub range_size : ℕ
 range_size = 1 + row_size
 
 -- WHAT A ROW IS: whether there is a reply, and the reply's own row.
-unfoldable pub range_in : List ℕ → RangeReply
-range_in row = record { present = not (eqb (get_or row 0 0) 0); reply = reply_in (drop 1 row) }
+unfoldable pub range_in : List ℕ → Option Reply
+range_in row = pick (eqb (get_or row 0 0) 0) None (Some (reply_in (drop 1 row)))
 
 -- What is put into a row is read out of it.
-pub range_packed : (r : RangeReply) (blank row : List ℕ) → length row ≡ row_size → length blank ≡ row_size → reply_in row ≡ r.reply
-    → range_in (over (bit_of r.present ∷ blank) 1 row) ≡ r
+pub range_packed : (r : Reply) (blank row : List ℕ) → length row ≡ row_size → length blank ≡ row_size → reply_in row ≡ r
+    → range_in (over (1 ∷ blank) 1 row) ≡ Some r
 unfolding range_in over
 range_packed r blank row h k e =
-    let g : length (bit_of r.present ∷ blank) ≤ 1 + length row = omega arith in
-    rw (drop_of_length-le (bit_of r.present ∷ blank) g, append-nil, e, bit_back r.present)
+    let g : length (1 ∷ blank) ≤ 1 + length row = omega arith in
+    rw (drop_of_length-le (1 ∷ blank) g, append-nil, e)
+
+-- A row that nothing is put into.
+pub range_blank : range_in (zeros range_size) ≡ None
+unfolding range_in
+range_blank = refl
 
 -- THE RANGES that the lent rows are.
-unfoldable pub ranges_of : List (List ℕ) → List RangeReply
+unfoldable pub ranges_of : List (List ℕ) → List (Option Reply)
 ranges_of rows = map range_in rows
 
 pub range_at : (rows : List (List ℕ)) (n : ℕ) → get_or (ranges_of rows) n no_range ≡ range_in (get_or rows n [])

@@ -2,7 +2,7 @@
 use Rattle.std.specs.Prelude.{Bool, true, false, Option, Some, None, List, ℕ, ◌-◌, leb, eqb, replicate}
 use Rattle.base.specs.Choice.{pick}
 use Rattle.reply.specs.Rules.{absent_range}
-use Rattle.reply.specs.declared.RangeReply.{RangeReply}
+use Rattle.reply.specs.declared.Reply.{Reply}
 use Rattle.link.specs.declared.FeatureSupport.{FeatureSupport}
 use Rattle.link.specs.declared.FeatureSupport.TheVariants.{Unknown, Yes, No}
 use Rattle.link.specs.declared.Features.{Features}
@@ -21,7 +21,7 @@ state_number No = 2
 abbrev pub is_no : FeatureSupport → Bool
 is_no x = eqb (state_number x) 2
 
-unfoldable pub no_ranges : List RangeReply
+unfoldable pub no_ranges : List (Option Reply)
 no_ranges = replicate 8 absent_range
 
 abbrev pub unknown_features : Features
@@ -40,7 +40,7 @@ start_link = record {
 abbrev pub with_attempt : Link → Option ℕ → Link
 with_attempt l a = record { connected = l.connected; features = l.features; ranges = l.ranges; known = l.known; attempt = a }
 
-abbrev pub with_ranges : Link → Bool → List RangeReply → Link
+abbrev pub with_ranges : Link → Bool → List (Option Reply) → Link
 with_ranges l up rs = record { connected = up; features = l.features; ranges = rs; known = l.known; attempt = l.attempt }
 
 -- Success hands in ranges, known lengths and multi-PID state. Either outcome while connected changes nothing and says so.

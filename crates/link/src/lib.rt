@@ -4,7 +4,7 @@
 ghost use Rattle.std.specs.Prelude.{◌≡◌};
 ghost use Rattle.link.specs.Rules.{no_ranges, is_no, rested_of};
 
-use reply::RangeReply;
+use reply::Reply;
 
 // what goes by value of a connection whose arrays are lent, and its calls; the ranges as they are lent
 pub mod ranges;
@@ -29,7 +29,7 @@ pub struct Link {
     pub connected: bool,
     pub features: Features,
     // the replies to the eight range queries; absent ones while nothing is known
-    pub ranges: [RangeReply; 8],
+    pub ranges: [Option<Reply>; 8],
     // which PIDs' data lengths are known
     pub known: [bool; 256],
     // the time of the last reconnect check that said yes, if there was one
@@ -40,7 +40,7 @@ pub struct Link {
 #[derive(Clone, Copy)]
 pub struct Session {
     pub features: Features,
-    pub ranges: [RangeReply; 8],
+    pub ranges: [Option<Reply>; 8],
     pub known: [bool; 256],
 }
 
@@ -69,15 +69,10 @@ const RECONNECT_DELAY: u64 = 1000;
 
 // Eight ranges of which nothing is known.
 #[tactic(auto, unfolding(crate::specs::Rules::no_ranges))]
-pub fn no_ranges() -> [RangeReply; 8]
+pub fn no_ranges() -> [Option<Reply>; 8]
     ensures { result ≡ no_ranges }
 {
-    let none = reply::empty();
-    let absent = RangeReply {
-        present: false,
-        reply: none,
-    };
-    [absent; 8]
+    [None; 8]
 }
 
 // Whether asking several PIDs together was refused.

@@ -16,7 +16,7 @@ use obd2::rest::{Core, Told};
 use obd2::{Said, telling};
 use poller::rest::KNOWN;
 use refusal::Refusal;
-use reply::RangeReply;
+use reply::Reply;
 
 // Whether a reconnect may be tried.
 pub fn reconnect_check(mut core: Core, time: u64) -> Told
@@ -35,27 +35,24 @@ pub fn reconnect_check(mut core: Core, time: u64) -> Told
 }
 
 // Whether a range's reply is over the limits. One that is absent is not.
-fn over_range(range: RangeReply) -> bool
+#[tactic(auto, unfolding(obd2::specs::Refusals::over_range))]
+fn over_range(range: Option<Reply>) -> bool
     ensures { result ≡ over_range range }
 {
-    if range.present {
-        let reply = range.reply;
-        return !reply::within(reply);
+    match range {
+        Some(reply) => !reply::within(reply),
+        None => false,
     }
-    false
 }
 
 // Whether one of the eight ranges' replies is over the limits.
-fn any_over(ranges: [RangeReply; 8]) -> bool
+fn any_over(ranges: [Option<Reply>; 8]) -> bool
     ensures { result ≡ some_of over_range ranges }
 {
-    let mut i: usize = 0;
-    while i < 8 {
-        let range = ranges[i];
-        if over_range(range) {
+    for range in &ranges {
+        if over_range(*range) {
             return true;
         }
-        i += 1;
     }
     false
 }

@@ -1,4 +1,5 @@
 -- What an accepted call does, side by side: document 01's rules for desk, manager and poller, put together.
+use Rattle.reply.specs.declared.Reply.{Reply}
 use Rattle.std.specs.Prelude.{None, Option, Some, ℕ, ◌+◌, Bool, false, List, replicate}
 use Rattle.cache.specs.Rules.{answer_of, handed_of, after_ask, step_of}
 use Rattle.cache.specs.declared.Step.{Step}
@@ -15,7 +16,6 @@ use Rattle.manager.specs.declared.Event.{Event}
 use Rattle.manager.specs.declared.Event.TheVariants as event
 use Rattle.poller.specs.Calls.{apply_of, connect_of, fail_of, reconnect_of, begin_of}
 use Rattle.poller.specs.declared.Poller.{Poller}
-use Rattle.reply.specs.declared.RangeReply.{RangeReply}
 use Rattle.rounds.specs.Next.{next_of}
 use Rattle.rounds.specs.Result.{result_of}
 use Rattle.waits.specs.Rules.{collected_of}
@@ -85,7 +85,7 @@ listing p (Some m) = apply_of p m
 
 module _ (s : State) where
   -- What an ask comes to, with the connection as it is.
-  abbrev pub ranges : List RangeReply
+  abbrev pub ranges : List (Option Reply)
   ranges = s.poller.link.ranges
 
   abbrev pub ask_step : List ℕ → Step

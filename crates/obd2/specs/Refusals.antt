@@ -1,6 +1,6 @@
 -- The refusals of the box: document 01's table, call by call. Each call's rows stand in the table's order, so that
 -- the first whose condition holds has the lowest number. Where a component alone decides, its rows stand with its rules.
-use Rattle.std.specs.Prelude.{ℕ, Bool, not, ◌&&◌, ◌||◌, [], ◌∷◌, ◌++◌, length, nat_lt}
+use Rattle.std.specs.Prelude.{ℕ, Bool, Option, not, ◌&&◌, ◌||◌, [], ◌∷◌, ◌++◌, length, nat_lt}
 use Rattle.base.specs.Each.{some_of}
 use Rattle.base.specs.Refusal.{Rows, first_of}
 use Rattle.cache.specs.Rules.{ask_rows}
@@ -12,8 +12,8 @@ use Rattle.desk.specs.Rules.{register_rows}
 use Rattle.manager.specs.declared.Answer.{Answer as Managed}
 use Rattle.poller.specs.State.{open_of, due_of}
 use Rattle.profile_check.specs.Check.{bad_profiles, unknown_mode}
-use Rattle.reply.specs.Rules.{within_of}
-use Rattle.reply.specs.declared.RangeReply.{RangeReply}
+use Rattle.reply.specs.Rules.{present, reply_of, within_of}
+use Rattle.reply.specs.declared.Reply.{Reply}
 use Rattle.report.specs.Metrics.{refused_of}
 use Rattle.waits.specs.Rules.{collect_rows, give_up_rows}
 use Rattle.obd2.specs.Call.{Call, manager, cache, settings, take_control, link, round, ManagerCall, Register, Leave, Respond, Changed, Waiting, Consumed, Tick, CacheCall, Ask, Collect, GiveUp, LinkCall, Connect, Fail, Check, RoundCall, Begin, Next, Result, time_of}
@@ -32,8 +32,8 @@ abbrev pub exceeds : ℕ → ℕ → Bool
 exceeds waiting sent = nat_lt (free_of waiting) sent
 
 -- 3, of a range reply that a connection brings: an absent one is over no limit
-unfoldable pub over_range : RangeReply → Bool
-over_range r = r.present && not (within_of r.reply)
+unfoldable pub over_range : Option Reply → Bool
+over_range r = present r && not (within_of (reply_of r))
 
 unfoldable pub start_refusal : ℕ → Settings → Profiles → ℕ
 start_refusal t st ps = first_of ((1, nat_lt latest t) ∷ (2, unknown_mode st.mode || bad_profiles ps) ∷ [])

@@ -26,7 +26,7 @@ use Rattle.pid_table.specs.Entry.{registered_of as entryRegistered}
 use Rattle.poller.specs.Calls.{connect_of as connectPoller}
 use Rattle.poller.specs.State.{start_of as startPoller}
 use Rattle.profile_check.specs.Check.{unknown_mode, bad_profiles}
-use Rattle.reply.specs.Rules.{max_pids, empty_reply, no_reply, absent_range, no_range, sum_of, lengths_of, total_of, within_of, size_of, joined_of, filled_of}
+use Rattle.reply.specs.Rules.{max_pids, empty_reply, no_reply, absent_range, no_range, reply_of, sum_of, lengths_of, total_of, within_of, size_of, joined_of, filled_of}
 use Rattle.waits.specs.Rules.{collected_of}
 use Rattle.obd2.specs.Call.{Call, ask, collect, response, FitResponse, Calls, none, more}
 use Rattle.obd2.specs.Done.{manager_by, cache_by, link_by, done_of}
@@ -63,7 +63,7 @@ replies_built : (i : ℕ) → i < max_pids → BuiltReply (get_or revs.replies i
 replies_built zero h = reading_built
 replies_built (suc i) h = empties 5 i (omega arith)
 
-absents : (n i : ℕ) → i < n → BuiltReply (get_or (replicate n absent_range) i no_range).reply
+absents : (n i : ℕ) → i < n → BuiltReply (reply_of (get_or (replicate n absent_range) i no_range))
 absents zero i h = let z : ⊥ = omega arith in absurd z
 absents (suc n) zero h = empty_built
 absents (suc n) (suc i) h = absents n i (omega arith)

@@ -24,7 +24,6 @@ use Rattle.desk.specs.Sound.{Sound, After}
 use Rattle.desk.specs.Rules.{registered, client_of, fresh, wait_of, stored, put_client, entered, leave_of, register_refusal, register_of}
 use Rattle.desk.specs.declared.Desk.{Desk}
 use Rattle.reply.specs.Rules.{no_reply}
-use Rattle.reply.specs.declared.RangeReply.{RangeReply}
 use Rattle.reply.specs.declared.Reply.{Reply}
 use Rattle.reply.specs.declared.Response.{Response}
 use Rattle.waits.specs.Laws.{collect_law, collect_found, give_up_law}
@@ -141,7 +140,7 @@ module _ {d : Desk} {on : Bool} (k : Sound d) (t : ℕ) where
         line = refl;
       }
 
-  pub asks : (c : ℕ) (rs : List RangeReply) (st : Step) (n : ℕ) → ask_refusal d c rs st n ≡ 0
+  pub asks : (c : ℕ) (rs : List (Option Reply)) (st : Step) (n : ℕ) → ask_refusal d c rs st n ≡ 0
       → let a = answer_of d c st in Makes d on (serving c (wait_after t a) (hands_out a)) t (after_ask d t c st) on
   asks c rs st n e =
       let a = answer_of d c st in

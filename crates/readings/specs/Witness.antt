@@ -10,7 +10,7 @@ use Rattle.config.specs.Defaults.{default_settings}
 use Rattle.link.specs.Rules.{no_ranges, unknown_features}
 use Rattle.link.specs.declared.Connecting.TheVariants.{Connected}
 use Rattle.link.specs.declared.Session.{Session}
-use Rattle.reply.specs.Rules.{max_lines, max_bytes, max_pids, empty_reply, no_reply, no_range}
+use Rattle.reply.specs.Rules.{max_lines, max_bytes, max_pids, empty_reply, no_reply, no_range, reply_of}
 use Rattle.reply.specs.declared.Reply.{Reply}
 use Rattle.reply.specs.declared.Response.{Response}
 use Rattle.obd2.specs.Call.{Call, register, ask, collect, response, connect}
@@ -105,7 +105,7 @@ pub record BuiltResponse (r : Response) : Type 0 where
 
 pub record BuiltSession (s : Session) : Type 0 where
   pub ranges : length s.ranges ≡ 8
-  pub each : (i : ℕ) → i < 8 → BuiltReply (get_or s.ranges i no_range).reply
+  pub each : (i : ℕ) → i < 8 → BuiltReply (reply_of (get_or s.ranges i no_range))
   pub known : length s.known ≡ 256
 
 -- The values that the start and the calls hand in.

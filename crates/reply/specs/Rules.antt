@@ -1,7 +1,7 @@
 -- A reply's lines and bytes, and its limits (document 01, "Client cache", and refusal 3).
-use Rattle.std.specs.Prelude.{Bool, false, ◌&&◌, List, [], ◌∷◌, ◌++◌, ℕ, ◌+◌, min, ltb, leb, length, get_or, take, drop, replicate}
+use Rattle.std.specs.Prelude.{Bool, Option, None, is_some, ◌&&◌, List, [], ◌∷◌, ◌++◌, ℕ, ◌+◌, min, ltb, leb, length, get_or, take, drop, replicate}
+use Rattle.std.specs.Option.{unwrap_or}
 use Rattle.base.specs.Choice.{pick}
-use Rattle.reply.specs.declared.RangeReply.{RangeReply}
 use Rattle.reply.specs.declared.Reply.{Reply}
 
 -- The limits of a reply, and of a response: refusal 3.
@@ -21,12 +21,20 @@ empty_reply = record { lines = 0; lengths = replicate max_lines 0; bytes = repli
 abbrev pub no_reply : Reply
 no_reply = record { lines = 0; lengths = []; bytes = [] }
 
--- A range of which nothing is known; and what a list of ranges has past its end.
-abbrev pub absent_range : RangeReply
-absent_range = record { present = false; reply = empty_reply }
+-- What one of the eight range queries brought: nothing, or a reply, possibly without lines. A range of which nothing is known;
+-- and what a list of ranges has past its end.
+abbrev pub absent_range : Option Reply
+absent_range = None
 
-abbrev pub no_range : RangeReply
-no_range = record { present = false; reply = no_reply }
+abbrev pub no_range : Option Reply
+no_range = None
+
+-- Whether a range has a reply, and which one; one without lines where it has none.
+abbrev pub present : Option Reply → Bool
+present r = is_some r
+
+abbrev pub reply_of : Option Reply → Reply
+reply_of r = unwrap_or r empty_reply
 
 unfoldable pub sum_of : List ℕ → ℕ
 sum_of [] = 0

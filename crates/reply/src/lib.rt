@@ -16,7 +16,8 @@ pub const MAX_PIDS: usize = 6;
 
 // The first `lines` of `lengths` are the lines' lengths, and the lines stand one after the other from the
 // start of `bytes`. Every value has a meaning, so no two parts can contradict each other: a `lines` above
-// MAX_LINES, or lengths that come to more than MAX_BYTES, is a reply over the limits of document 01.
+// MAX_LINES, or lengths that come to more than MAX_BYTES, is a reply over the limits of document 01. Arrays with their counts, since
+// the box runs in fixed memory.
 #[derive(Clone, Copy)]
 pub struct Reply {
     pub lines: u8,
@@ -24,14 +25,8 @@ pub struct Reply {
     pub bytes: [u8; MAX_BYTES],
 }
 
-// What one of the eight range queries brought: nothing, or a reply, possibly without lines.
-#[derive(Clone, Copy)]
-pub struct RangeReply {
-    pub present: bool,
-    pub reply: Reply,
-}
-
-// What one response of the dongle brings: the first `count` of `pids`, each with its reply.
+// What one response of the dongle brings: the first `count` of `pids`, each with its reply. An array with its count, since the box
+// runs in fixed memory.
 #[derive(Clone, Copy)]
 pub struct Response {
     pub count: u8,

@@ -1,6 +1,5 @@
 use mathlib.Core.Path.{refl, sym, ◌∙◌, ap}
 use Rattle.desk.specs.Core.{desk_of}
-use Rattle.reply.specs.declared.RangeReply.{RangeReply}
 use Rattle.cache.specs.Rules.{busy, after_ask, answer_of, handed_of}
 use Rattle.cache.specs.Cases.{promised_other, promised_cache}
 use Rattle.cache.specs.Asking.{asked_in}
@@ -44,7 +43,7 @@ returns-in-Stored c =
     let r = a.replies.now in
     let m = a.marks.now in
     let n = c.in-Stored.n in
-    (search rules, promised_other (asked_in r m c.ask_other-in-Stored.result) _ (desk_of r m a.core) a.time a.number a.ranges _ a.area.now (Stored n) (sym c.first_step-step.ensures ∙ c.in-Stored.is) Range c.range-found.result.reply refl refl refl (ap (λ (q : RangeReply). q.reply) c.range-found.ensures) (c.ask_other-in-Stored.ensures.by_index r m) (c.ask_other-in-Stored.ensures.by_index_2 r m)))
+    (search rules, promised_other (asked_in r m c.ask_other-in-Stored.result) _ (desk_of r m a.core) a.time a.number a.ranges _ a.area.now (Stored n) (sym c.first_step-step.ensures ∙ c.in-Stored.is) Range c.unwrap_or-out.result refl refl refl (c.unwrap_or-out.ensures ∙ rw (c.range-found.ensures, c.empty-nothing.ensures)) (c.ask_other-in-Stored.ensures.by_index r m) (c.ask_other-in-Stored.ensures.by_index_2 r m)))
 
 pub returns-in-ToCache : goal.returns-in-ToCache
 returns-in-ToCache c =

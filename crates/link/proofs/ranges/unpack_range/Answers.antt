@@ -1,3 +1,4 @@
+use borrow.Author.Tests.{eq-eqb, ne_eqb}
 use Rattle.base.specs.Write.{over, over_copy}
 use mathlib.Core.Path.{sym}
 use mathlib.Core.List.{List, append-nil}
@@ -15,6 +16,10 @@ use Rattle.link.proofs.ranges.unpack_range.Goals as goal
 copied : (s d : List ℕ) → length d ≤ length s → over d 0 s ≡ s
 copied s d h = sym (over_copy s d) ∙ rw (take-length s, drop_of_length-le d h, append-nil)
 
+pub returns-then-row-eq0 : goal.returns-then-row-eq0
+unfolding range_in
+returns-then-row-eq0 c = rw (eq-eqb _ _ c.if-row-eq0.true)
+
 pub returns : goal.returns
 unfolding range_in
 returns c =
@@ -24,4 +29,4 @@ returns c =
     let part = take row_size (drop 1 row) in
     let whole : part ≡ drop 1 row = take_all row_size (drop 1 row) (omega arith) in
     let m : length part ≡ row_size = rw (whole, n) in
-    rw (c.unpack-reply.ensures, c.copy.ensures ∙ copied part _ (omega arith), whole)
+    rw (ne_eqb _ _ c.if-row-eq0.false, c.unpack.ensures, c.copy.ensures ∙ copied part _ (omega arith), whole)
