@@ -41,6 +41,7 @@ fn feed_part<const N: usize, W: Write>(
     writer: &mut W,
 ) -> Turn {
     let mut current = reading;
+    // A walk: each feed tells how much of the part it used.
     let mut at = 0;
     while at < input.len() {
         let fed = capture_stream::feed(current, hold, &input[at..], out);

@@ -4,7 +4,7 @@
 ghost use Rattle.std.specs.Prelude.{◌≡◌};
 ghost use Rattle.pid.specs.Lengths.{data_length_of};
 
-// By PID; 0 stands for a length that is not known, since no PID has one of 0.
+// By PID; 0 stands for a length that is not known, since no PID has one of 0: a byte an entry, as document 02's A10 wants it.
 const MODE01_PID_DATA_LENGTHS: [u8; 256] = [
     // 00 to 0F
     4, 4, 2, 2, 1, 1, 1, 1, 1, 1, 1, 1, 2, 1, 1, 1,
