@@ -45,6 +45,7 @@ pub struct Asked {
     pub desk: Desk,
     pub refusal: u8,
     pub answer: Answer,
+    // An array with its count, since the box runs in fixed memory.
     pub lines: u8,
     pub lengths: [u8; reply::MAX_LINES],
 }

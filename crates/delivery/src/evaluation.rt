@@ -15,6 +15,7 @@ pub struct Evaluated {
     pub revs: Option<u32>,
     pub profiles: Profiles,
     pub refusal: u8,
+    // Arrays by the place of a PID in the response, since the box runs in fixed memory.
     pub values: [u32; reply::MAX_PIDS],
     pub notices: [bool; reply::MAX_PIDS],
 }

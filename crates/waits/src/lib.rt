@@ -13,6 +13,7 @@ pub struct Collected {
     pub refusal: u8,
     pub pid: u8,
     pub wait: u64,
+    // An array with its count, since the box runs in fixed memory.
     pub lines: u8,
     pub lengths: [u8; reply::MAX_LINES],
 }
