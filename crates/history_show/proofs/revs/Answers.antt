@@ -5,7 +5,7 @@ use Rattle.history_show.proofs.revs.Goals as goal
 
 pub returns-in-Some : goal.returns-in-Some
 unfolding revs_text
-returns-in-Some g c = rw c.in-Some.is (added_then c.byte.ensures c.number.ensures)
+returns-in-Some g c = rw c.in-Some.is (added_then c.byte.ensures (rw c.from.ensures at c.number.ensures))
 
 pub returns-in-None : goal.returns-in-None
 unfolding revs_text
