@@ -6,8 +6,7 @@ use reply::Response;
 use rounds::Outcome;
 
 // A call with its numbers: a client's number, a PID, a wait, settings. Beside it go its time, the lists that it
-// brings (`Brought`, since no enum holds an array), and what is lent: the bytes of a command, and the area that an
-// ask and a collect fill.
+// brings (`Brought`), and what is lent: the bytes of a command, and the area that an ask and a collect fill.
 #[derive(Clone, Copy)]
 pub enum Call {
     Register,
