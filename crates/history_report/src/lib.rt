@@ -1,7 +1,7 @@
 // The report of a maintenance, behind the answer of the call in which it ran.
 #![tactic(auto)]
 
-ghost use Rattle.std.specs.Prelude.{◌≡◌, min, length};
+ghost use Rattle.std.specs.Prelude.{◌≡◌, length};
 ghost use Rattle.report.specs.Rates.{ratings};
 ghost use Rattle.report.specs.Summary.{report_in};
 ghost use Rattle.writing.specs.Added.{Added};
@@ -33,20 +33,13 @@ fn rate<const N: usize>(out: &mut Text<N>, rated: Rated)
     writing_pairs::word(out, writing_pairs::bits(rated.rate));
 }
 
-// How many rates there are.
-fn counted(count: u16) -> usize
-    ensures { result ≡ min count 256 }
-{
-    if count < 256 { count as usize } else { 256 }
-}
-
 // The rates in the report's order.
 fn listed<const N: usize>(out: &mut Text<N>, pids: &[u8; 256], rates: &[f32; 256], count: u16)
     requires pids_len { length pids.now ≡ 256 }
     requires rates_len { length rates.now ≡ 256 }
     ensures { Added N out.old (rates_text (ratings (rates_in pids.now rates.now count))) out.new }
 {
-    let n = counted(count);
+    let n = base::least(count as usize, 256);
     for i in 0..n {
         let rated = Rated {
             pid: pids[i],

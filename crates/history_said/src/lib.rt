@@ -20,13 +20,6 @@ use reply::{Reply, Response};
 use rounds::Step;
 use writing::Text;
 
-// How many lines have a length.
-fn counted(lines: u8) -> usize
-    ensures { result ≡ min lines 8 }
-{
-    if lines < 8 { lines as usize } else { 8 }
-}
-
 // How many bytes the lines have, as far as the area goes.
 fn held(lines: u8, lengths: [u8; 8], room: usize) -> usize
     ensures { result ≡ min (held_of lines lengths) room }
@@ -44,7 +37,7 @@ fn held(lines: u8, lengths: [u8; 8], room: usize) -> usize
 fn reply_lines<const N: usize>(out: &mut Text<N>, lines: u8, lengths: [u8; 8], area: &[u8])
     ensures { Added N out.old (lines_text lines lengths area.now) out.new }
 {
-    let n = counted(lines);
+    let n = base::least(lines as usize, 8);
     writing_lists::numbers(out, &lengths[..n]);
     out.byte(b' ');
     let size = held(lines, lengths, area.len());
@@ -141,18 +134,11 @@ fn ecu<const N: usize>(out: &mut Text<N>, count: u8)
     }
 }
 
-// How many PIDs a query, or a response, has.
-fn listed(count: usize) -> usize
-    ensures { result ≡ min count 6 }
-{
-    if count < 6 { count } else { 6 }
-}
-
 // The PIDs that are asked, and the ECU count kept for them.
 fn query<const N: usize>(out: &mut Text<N>, query: Query)
     ensures { Added N out.old (query_text query) out.new }
 {
-    let n = listed(query.count);
+    let n = base::least(query.count, 6);
     let pids = query.pids;
     out.put(b"query ");
     writing_lists::pids(out, &pids[..n]);
@@ -190,7 +176,7 @@ fn values<const N: usize>(
 )
     ensures { Added N out.old (values_from 0 (min count 6) pids values notices) out.new }
 {
-    let n = listed(count as usize);
+    let n = base::least(count as usize, 6);
     for i in 0..n {
         value(out, pids[i], values[i], notices[i]);
     }

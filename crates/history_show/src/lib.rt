@@ -2,7 +2,7 @@
 // last accepted time, the poller's lists, the manager's table, the control line, the revs.
 #![tactic(auto)]
 
-ghost use Rattle.std.specs.Prelude.{◌≡◌, min, ◌||◌, length};
+ghost use Rattle.std.specs.Prelude.{◌≡◌, length};
 ghost use Rattle.control_line.specs.Rows.{line_of};
 ghost use Rattle.obd2.specs.Core.{Lent, box_of};
 ghost use Rattle.pid_table.specs.Rows.{info_of, table_of};
@@ -72,13 +72,6 @@ fn tracked<const N: usize>(out: &mut Text<N>, more: bool, pid: u8, row: [u64; 8]
     entry(out, pid, info);
 }
 
-// Whether one of the two holds.
-fn either(a: bool, b: bool) -> bool
-    ensures { result ≡ (a || b) }
-{
-    if a { true } else { b }
-}
-
 // The PIDs of the table, rising.
 fn entries<const N: usize>(out: &mut Text<N>, table: &[[u64; 8]; 256])
     requires { length table.now ≡ 256 }
@@ -89,7 +82,7 @@ fn entries<const N: usize>(out: &mut Text<N>, table: &[[u64; 8]; 256])
     for i in 0..256usize {
         let row = table[i];
         tracked(out, more, i as u8, row);
-        more = either(more, row[0] != 0);
+        more |= row[0] != 0;
     }
     writing_lists::none(out, more);
 }
@@ -110,18 +103,11 @@ fn message<const N: usize>(out: &mut Text<N>, message: DongleMessage)
     }
 }
 
-// How many messages wait.
-fn waiting(count: u16) -> usize
-    ensures { result ≡ min count 1024 }
-{
-    if count < 1024 { count as usize } else { 1024 }
-}
-
 // The control messages that wait, in order.
 fn line<const N: usize>(out: &mut Text<N>, slots: &[[u8; 2]; PLACES], ends: Ends)
     ensures { Added N out.old (line_text (line_of slots.now ends)) out.new }
 {
-    let n = waiting(ends.count);
+    let n = base::least(ends.count as usize, 1024);
     let head = ends.head as usize;
     out.byte(b' ');
     let mut more = false;

@@ -19,7 +19,7 @@ pub fn pair<const N: usize>(out: &mut Text<N>, b: u8)
 }
 
 // Bytes as pairs, one behind the other.
-fn pairs<const N: usize>(out: &mut Text<N>, bytes: &[u8])
+pub fn pairs<const N: usize>(out: &mut Text<N>, bytes: &[u8])
     ensures { Added N out.old (hex_text bytes.now) out.new }
 {
     for b in bytes {

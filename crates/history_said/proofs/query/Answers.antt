@@ -17,15 +17,15 @@ whole g c = search rules
 pub slice_bounds-pids-end : goal.slice_bounds-pids-end
 slice_bounds-pids-end g c =
     let w = whole g (goal.at.slice_bounds-pids-end g c).Start in
-    omega (arith, c.listed-n.ensures)
+    omega (arith, c.least-n.ensures)
 
 pub slice_bounds-pids-end-2 : goal.slice_bounds-pids-end-2
 slice_bounds-pids-end-2 g c =
     let w = whole g (goal.at.slice_bounds-pids-end-2 g c).Start in
-    sym (length-take-le _ _ (omega (arith, c.listed-n.ensures)))
+    sym (length-take-le _ _ (omega (arith, c.least-n.ensures)))
 
 pub returns : goal.returns
 unfolding query_text
 returns g c =
-    let w = rw (c.listed-n.ensures, take_least c.args.query.count 6 c.args.query.pids (whole g (goal.at.returns g c).Start)) at c.pids.ensures in
+    let w = rw (c.least-n.ensures, take_least c.args.query.count 6 c.args.query.pids (whole g (goal.at.returns g c).Start)) at c.pids.ensures in
     added_then c.put.ensures (added_then w (added_then c.byte.ensures c.ecu.ensures))

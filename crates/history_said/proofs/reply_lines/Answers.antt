@@ -17,7 +17,7 @@ whole g c = search rules
 pub slice_bounds-numbers-end : goal.slice_bounds-numbers-end
 slice_bounds-numbers-end g c =
     let w = whole g (goal.at.slice_bounds-numbers-end g c).Start in
-    sym (length-take-le _ _ (omega (arith, c.counted-n.ensures)))
+    sym (length-take-le _ _ (omega (arith, c.least-n.ensures)))
 
 pub slice_bounds-bytes-end : goal.slice_bounds-bytes-end
 slice_bounds-bytes-end g c = sym (length-take-le _ _ (omega (arith, c.held-size.ensures)))
@@ -25,6 +25,6 @@ slice_bounds-bytes-end g c = sym (length-take-le _ _ (omega (arith, c.held-size.
 pub returns : goal.returns
 unfolding lines_text
 returns g c =
-    let v = rw (c.counted-n.ensures, take_least c.args.lines 8 c.args.lengths (whole g (goal.at.returns g c).Start)) at c.numbers.ensures in
+    let v = rw (c.least-n.ensures, take_least c.args.lines 8 c.args.lengths (whole g (goal.at.returns g c).Start)) at c.numbers.ensures in
     let w = rw (c.held-size.ensures, take_min (held_of c.args.lines c.args.lengths) c.args.area.now) at c.bytes.ensures in
     added_then v (added_then c.byte.ensures w)

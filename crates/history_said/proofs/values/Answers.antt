@@ -8,7 +8,7 @@ use Rattle.history_said.proofs.values.Goals as goal
 
 pub loop-i-init : goal.loop-i-init
 loop-i-init g c =
-    let n = c.listed-n.result in
+    let n = c.least-n.result in
     let z : n - 0 ≡ n = omega arith in
     rw z (left_all _ _ _)
 
@@ -21,4 +21,4 @@ pub returns : goal.returns
 returns g c =
     let s = c.args in
     let h = c.loop-i-test.false in
-    rw (sym c.listed-n.ensures) (left_none c.loop-i.invariant (values_end _ s.pids s.values s.notices c.loop-i.i (omega arith)))
+    rw (sym c.least-n.ensures) (left_none c.loop-i.invariant (values_end _ s.pids s.values s.notices c.loop-i.i (omega arith)))

@@ -12,8 +12,7 @@ pub loop-i-preserved : goal.loop-i-preserved
 loop-i-preserved g c =
     let n = c.requires in
     let h = c.loop-i-test.true in
-    let l = left_next c.loop-i.invariant (rows_next c.args.table.now c.loop-i.more c.loop-i.i (omega arith)) c.tracked.ensures in
-    rw c.either-more.ensures l
+    left_next c.loop-i.invariant (rows_next c.args.table.now c.loop-i.more c.loop-i.i (omega arith)) c.tracked.ensures
 
 pub returns : goal.returns
 unfolding table_text

@@ -11,7 +11,7 @@ use Rattle.history_show.proofs.line.Goals as goal
 pub loop-i-init : goal.loop-i-init
 loop-i-init g c =
     let h = c.args.ends.head in
-    let n = c.waiting-n.result in
+    let n = c.least-n.result in
     let y : h + 0 ≡ h = omega arith in
     let z : n - 0 ≡ n = omega arith in
     rw (y, z) (left_all _ _ _)
@@ -27,4 +27,4 @@ unfolding line_text line_of
 returns g c =
     let h = c.loop-i-test.false in
     let l = left_last c.loop-i.invariant (slots_end c.args.slots.now _ _ c.loop-i.more c.loop-i.i (omega arith)) c.none.ensures in
-    rw (sym c.waiting-n.ensures) (added_then c.byte.ensures l)
+    rw (sym c.least-n.ensures) (added_then c.byte.ensures l)
