@@ -26,7 +26,7 @@ use Rattle.triggers.specs.Rules.{switch_of}
 use Rattle.obd2.specs.Call.{Call, manager, cache, settings, take_control, link, round, ManagerCall, Register, Leave, Respond, Changed, Waiting, Consumed, Tick, next, result, Calls}
 use Rattle.obd2.specs.History.{start_of, step, run, Event, happened, accepted_by, accepted}
 use Rattle.obd2.specs.Refusals.{round_open, result_due}
-use Rattle.obd2.specs.declared.Answer.{Answer}
+use Rattle.obd2.specs.Answer.{Answer}
 use Rattle.obd2.specs.declared.State.{State}
 
 -- What the rules make of the accepted calls: the manager, with the profiles and the settings it goes by.

@@ -4,6 +4,7 @@ pub mod Choice
 pub mod Count
 pub mod Each
 pub mod Letters
+pub mod Mapped
 pub mod Refusal
 pub mod Search
 pub mod Table

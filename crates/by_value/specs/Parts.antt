@@ -12,7 +12,7 @@ use Rattle.link.specs.declared.rest.Core as link
 use Rattle.manager.specs.Rows.{manager_of}
 use Rattle.obd2.specs.Core.{Lent, box_of}
 use Rattle.obd2.specs.History.{step}
-use Rattle.obd2.specs.declared.Answered.{Answered}
+use Rattle.obd2.specs.Answer.{Answered}
 use Rattle.obd2.specs.declared.State.{State}
 use Rattle.obd2.specs.declared.call.Brought.{Brought}
 use Rattle.obd2.specs.declared.call.Call.{Call}

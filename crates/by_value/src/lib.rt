@@ -6,6 +6,7 @@ ghost use Rattle.std.specs.Prelude.{◌≡◌, []};
 ghost use Rattle.by_value.specs.Parts.{desk_core, link_core, poller_core, polled_in, known_in, core_of};
 ghost use Rattle.desk.specs.Core.{desk_of};
 ghost use Rattle.dispatch.specs.Dispatch.{call_of, area_of, Promised};
+ghost use Rattle.obd2.specs.Answer.{answered_in};
 ghost use Rattle.obd2.specs.Answers.{PromisedStart};
 ghost use Rattle.obd2.specs.Core.{lent, box_of, details_of, answered_of};
 ghost use Rattle.obd2.specs.History.{start_of, step};
@@ -30,13 +31,10 @@ use reply::rows::ROW;
 fn desk_core(desk: Desk) -> desk::rest::Core
     ensures { result ≡ desk_core desk }
 {
-    let clients = desk.clients;
-    let seats = clients::seats::seats_of(clients);
-    let revs = desk.revs;
     desk::rest::Core {
-        clients: seats,
+        clients: clients::seats::seats_of(desk.clients),
         given: desk.given,
-        revs: revs,
+        revs: desk.revs,
     }
 }
 
@@ -44,12 +42,10 @@ fn desk_core(desk: Desk) -> desk::rest::Core
 fn link_core(link: Link) -> link::rest::Core
     ensures { result ≡ link_core link }
 {
-    let features = link.features;
-    let attempt = link.attempt;
     link::rest::Core {
         connected: link.connected,
-        features: features,
-        attempt: attempt,
+        features: link.features,
+        attempt: link.attempt,
     }
 }
 
@@ -57,21 +53,15 @@ fn link_core(link: Link) -> link::rest::Core
 fn poller_core(poller: Poller) -> poller::rest::Core
     ensures { result ≡ poller_core poller }
 {
-    let fast = poller::rest::ends_of(poller.fast);
-    let slow = poller::rest::ends_of(poller.slow);
-    let link = link_core(poller.link);
-    let settings = poller.settings;
-    let plan = poller::rest::course_of(poller.plan);
-    let round = poller.round;
     poller::rest::Core {
-        fast: fast,
-        slow: slow,
+        fast: poller::rest::ends_of(poller.fast),
+        slow: poller::rest::ends_of(poller.slow),
         clock: poller.clock,
         requests: poller.requests,
-        link: link,
-        settings: settings,
-        plan: plan,
-        round: round,
+        link: link_core(poller.link),
+        settings: poller.settings,
+        plan: poller::rest::course_of(poller.plan),
+        round: poller.round,
     }
 }
 
@@ -98,26 +88,19 @@ fn known_of(poller: Poller) -> [[bool; 256]; KNOWN]
 fn core_of(state: State) -> Core
     ensures { result ≡ core_of state }
 {
-    let desk = desk_core(state.desk);
-    let metrics = state.manager.metrics;
-    let manager = manager::rows::Core {
-        metrics: metrics,
-        last: state.manager.last,
-    };
-    let line = Ends {
-        head: state.line.head,
-        count: state.line.count,
-    };
-    let poller = poller_core(state.poller);
-    let profiles = state.profiles;
-    let settings = state.settings;
     Core {
-        desk: desk,
-        manager: manager,
-        poller: poller,
-        line: line,
-        profiles: profiles,
-        settings: settings,
+        desk: desk_core(state.desk),
+        manager: manager::rows::Core {
+            metrics: state.manager.metrics,
+            last: state.manager.last,
+        },
+        poller: poller_core(state.poller),
+        line: Ends {
+            head: state.line.head,
+            count: state.line.count,
+        },
+        profiles: state.profiles,
+        settings: state.settings,
         time: state.time,
     }
 }
@@ -126,15 +109,11 @@ fn core_of(state: State) -> Core
 fn desk_of(replies: [[u8; ROW]; 256], marks: [[bool; 256]; PLACES], core: desk::rest::Core) -> Desk
     ensures { result ≡ desk_of replies marks core }
 {
-    let seats = core.clients;
-    let clients = clients::seats::clients_of(marks, seats);
-    let store = reply::rows::unpack_all(replies);
-    let revs = core.revs;
     Desk {
-        clients: clients,
-        store: store,
+        clients: clients::seats::clients_of(marks, core.clients),
+        store: reply::rows::unpack_all(replies),
         given: core.given,
-        revs: revs,
+        revs: core.revs,
     }
 }
 
@@ -148,34 +127,23 @@ fn poller_of(
 ) -> Poller
     ensures { result ≡ poller_of (held polled known order ranges) core }
 {
-    let fast = poller::rest::fast(&polled, core.fast);
-    let slow = poller::rest::slow(&polled, core.slow);
-    let plan = poller::rest::plan(&polled, &known, &order, core.plan);
-    let counts = polled[COUNTS];
-    let lengths = known[LENGTHS];
-    let told = link::ranges::unpack_all(ranges);
-    let small = core.link;
-    let features = small.features;
-    let attempt = small.attempt;
     let link = Link {
-        connected: small.connected,
-        features: features,
-        ranges: told,
-        known: lengths,
-        attempt: attempt,
+        connected: core.link.connected,
+        features: core.link.features,
+        ranges: link::ranges::unpack_all(ranges),
+        known: known[LENGTHS],
+        attempt: core.link.attempt,
     };
-    let settings = core.settings;
-    let round = core.round;
     Poller {
-        fast: fast,
-        slow: slow,
+        fast: poller::rest::fast(&polled, core.fast),
+        slow: poller::rest::slow(&polled, core.slow),
         clock: core.clock,
         requests: core.requests,
-        counts: counts,
-        link: link,
-        settings: settings,
-        plan: plan,
-        round: round,
+        counts: polled[COUNTS],
+        link,
+        settings: core.settings,
+        plan: poller::rest::plan(&polled, &known, &order, core.plan),
+        round: core.round,
     }
 }
 
@@ -193,30 +161,23 @@ fn state_of(
 ) -> State
     ensures { result ≡ box_of (lent replies marks table slots (held polled known order ranges) [] []) core }
 {
-    let desk = desk_of(replies, marks, core.desk);
-    let entries = pid_table::rows::unpack_all(table);
-    let metrics = core.manager.metrics;
     let manager = Manager {
-        table: entries,
-        metrics: metrics,
+        table: pid_table::rows::unpack_all(table),
+        metrics: core.manager.metrics,
         last: core.manager.last,
     };
-    let messages = control_line::places::unpack_all(slots);
     let line = ControlLine {
-        slots: messages,
+        slots: control_line::places::unpack_all(slots),
         head: core.line.head,
         count: core.line.count,
     };
-    let poller = poller_of(polled, known, order, ranges, core.poller);
-    let profiles = core.profiles;
-    let settings = core.settings;
     State {
-        desk: desk,
-        manager: manager,
-        poller: poller,
-        line: line,
-        profiles: profiles,
-        settings: settings,
+        desk: desk_of(replies, marks, core.desk),
+        manager,
+        poller: poller_of(polled, known, order, ranges, core.poller),
+        line,
+        profiles: core.profiles,
+        settings: core.settings,
         time: core.time,
     }
 }
@@ -225,18 +186,16 @@ fn state_of(
 fn details_of(pids: [u8; 256], rates: [f32; 256], notes: Notes) -> Details
     ensures { result ≡ details_of (lent [] [] [] [] (held [] [] [] []) pids rates) notes }
 {
-    let report = report::summary::report(&pids, &rates, notes.summary);
     let lengths = notes.lengths;
     let values = notes.values;
     let notices = notes.notices;
-    let query = notes.query;
     Details {
         lines: notes.lines,
-        lengths: lengths,
-        values: values,
-        notices: notices,
-        query: query,
-        report: report,
+        lengths,
+        values,
+        notices,
+        query: notes.query,
+        report: report::summary::report(&pids, &rates, notes.summary),
     }
 }
 
@@ -254,24 +213,22 @@ fn answered_of(
     rates: [f32; 256],
     told: Told,
 ) -> Answered
-    ensures { result ≡ answered_of (lent replies marks table slots (held polled known order ranges) pids rates) told }
+    ensures { answered_in result ≡ answered_of (lent replies marks table slots (held polled known order ranges) pids rates) told }
 {
     let state = state_of(
         replies, marks, table, slots, polled, known, order, ranges, told.core,
     );
-    let details = details_of(pids, rates, told.notes);
-    let answer = told.answer;
     Answered {
-        state: state,
-        answer: answer,
-        details: details,
+        state,
+        answer: told.answer,
+        details: details_of(pids, rates, told.notes),
     }
 }
 
 // The box's start.
 pub fn start(time: u64, settings: Settings, profiles: Profiles) -> Answered
-    ensures value { result ≡ start_of time settings profiles }
-    ensures promised_start { PromisedStart time settings profiles result }
+    ensures value { answered_in result ≡ start_of time settings profiles }
+    ensures promised_start { PromisedStart time settings profiles (answered_in result) }
 {
     let mut replies = [[0u8; ROW]; 256];
     let mut marks = [[false; 256]; PLACES];
@@ -310,9 +267,9 @@ pub fn call(
     cmd: &[u8],
     area: &mut [u8],
 ) -> Answered
-    ensures value { result ≡ step state (call_of time call brought cmd.now area.old) }
+    ensures value { answered_in result ≡ step state (call_of time call brought cmd.now area.old) }
     ensures area_after { area.new ≡ area_of state time call brought cmd.now area.old }
-    ensures promised { Promised state (call_of time call brought cmd.now area.old) result }
+    ensures promised { Promised state (call_of time call brought cmd.now area.old) (answered_in result) }
 {
     let store = state.desk.store;
     let mut replies = reply::rows::pack_all(store);

@@ -1,5 +1,5 @@
 -- Ask over lent replies and marks: its answer as that of `Rules`, case by case.
-use Rattle.std.specs.Prelude.{◌≡◌, ℕ, ◌<◌, ◌≤◌, Bool, true, false, ltb, List, [], length, replicate, ◌≢◌, nat_lt, slice_index_or, slice_set}
+use Rattle.std.specs.Prelude.{Option, is_some, ◌≡◌, ℕ, ◌<◌, ◌≤◌, Bool, true, false, ltb, List, [], length, replicate, ◌≢◌, nat_lt, slice_index_or, slice_set}
 use Rattle.std.proofs.Common.{ap, sym, ◌∙◌, arith}
 use Rattle.clients.specs.Rules.{places, seat_of, taken_of, waiting_of}
 use Rattle.clients.specs.Seats.{seated, no_seat, clients_of, taken_marks}
@@ -77,17 +77,17 @@ module _ (replies : List (List ℕ)) (marks : List (List Bool)) (k : Core) (c i 
       abbrev mark : Bool
       mark = slice_index_or (slice_index_or marks i []) p false
 
-      waits : (b : Bool) → seat.wait.waiting ≡ b → (wait_of d c).waiting ≡ b
-      waits b f = ap (λ (w : Wait). w.waiting) (sym (held_wait replies marks k c i e h l)) ∙ f
+      waits : (b : Bool) → is_some seat.wait ≡ b → is_some (wait_of d c) ≡ b
+      waits b f = ap (λ (w : Option Wait). is_some w) (sym (held_wait replies marks k c i e h l)) ∙ f
 
       came : (b : Bool) → mark ≡ b → fresh d c p ≡ b
       came b g = sym (held_fresh replies marks k c i e h l p) ∙ g
 
-      pub busy_asks : seat.wait.waiting ≡ true
+      pub busy_asks : is_some seat.wait ≡ true
           → (asked_in replies marks (not_told 9 k) ≡ ask_of d t c [] (ToCache p) (length area)) × (area ≡ ask_area d c [] (ToCache p) area)
       busy_asks f = refused 9 (λ q. omega arith) (refusal_busy d c [] p (length area) (held_known replies marks k c i e h) (waits true f))
 
-      module _ (f : seat.wait.waiting ≡ false) where
+      module _ (f : is_some seat.wait ≡ false) where
         fits : (b : Bool) → nat_lt (length area) (size_of out) ≡ b → nat_lt (length area) (size_of (stored d p)) ≡ b
         fits b o = ap (λ (r : Reply). ltb (length area) (size_of r)) (sym (held_reply replies marks k p)) ∙ o
 

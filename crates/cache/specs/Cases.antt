@@ -1,4 +1,5 @@
 -- Each definition of `Rules`, case by case: what the proofs of the functions and of the laws cite.
+use Rattle.std.specs.Prelude.{is_some}
 use Rattle.std.specs.Prelude.{◌≡◌, ℕ, true, false, ltb, List, [], length, ◌==◌, ◌≢◌, nat_lt, slice_index_or}
 use Rattle.std.proofs.Math.Path.{refl, ap, sym}
 use Rattle.std.proofs.Common.{◌∙◌, arith}
@@ -98,21 +99,21 @@ module _ (d : Desk) (c : ℕ) (rs : List RangeReply) (p n : ℕ) where
   unfolding ask_refusal first_of
   refusal_stranger e = rw e
 
-  pub refusal_busy : registered d c ≡ true → (wait_of d c).waiting ≡ true → ask_refusal d c rs (ToCache p) n ≡ 9
+  pub refusal_busy : registered d c ≡ true → is_some (wait_of d c) ≡ true → ask_refusal d c rs (ToCache p) n ≡ 9
   unfolding ask_refusal first_of busy
   refusal_busy e f = rw (e, f)
 
-  pub refusal_short : registered d c ≡ true → (wait_of d c).waiting ≡ false → fresh d c p ≡ true → nat_lt n (size_of (stored d p)) ≡ true
+  pub refusal_short : registered d c ≡ true → is_some (wait_of d c) ≡ false → fresh d c p ≡ true → nat_lt n (size_of (stored d p)) ≡ true
       → ask_refusal d c rs (ToCache p) n ≡ 14
   unfolding ask_refusal first_of busy handed_of
   refusal_short e f g h = rw (e, f, g, h)
 
-  pub refusal_none : registered d c ≡ true → (wait_of d c).waiting ≡ false → fresh d c p ≡ true → nat_lt n (size_of (stored d p)) ≡ false
+  pub refusal_none : registered d c ≡ true → is_some (wait_of d c) ≡ false → fresh d c p ≡ true → nat_lt n (size_of (stored d p)) ≡ false
       → ask_refusal d c rs (ToCache p) n ≡ 0
   unfolding ask_refusal first_of busy handed_of
   refusal_none e f g h = rw (e, f, g, h)
 
-  pub refusal_wait : registered d c ≡ true → (wait_of d c).waiting ≡ false → fresh d c p ≡ false → ask_refusal d c rs (ToCache p) n ≡ 0
+  pub refusal_wait : registered d c ≡ true → is_some (wait_of d c) ≡ false → fresh d c p ≡ false → ask_refusal d c rs (ToCache p) n ≡ 0
   unfolding ask_refusal first_of busy handed_of
   refusal_wait e f g = rw (e, f, g, size_empty, le-ltb n 0 (omega arith))
 

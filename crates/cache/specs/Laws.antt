@@ -1,5 +1,5 @@
 -- What an ask does to the desk, and when it hands out a reading.
-use Rattle.std.specs.Prelude.{◌≡◌, ℕ, ◌≤◌, Bool, true, false, not, ◌&&◌, List, [], ◌∷◌, ◌++◌, length, drop, ◌==◌, ◌≢◌, nat_lt}
+use Rattle.std.specs.Prelude.{Option, Some, ◌≡◌, ℕ, ◌≤◌, Bool, true, false, not, ◌&&◌, List, [], ◌∷◌, ◌++◌, length, drop, ◌==◌, ◌≢◌, nat_lt}
 use Rattle.std.proofs.Math.Bool.{and-true}
 use Rattle.std.specs.Prelude.{refl}
 use Rattle.std.proofs.Common.{ap, sym, ◌∙◌, arith}
@@ -35,12 +35,12 @@ same_fresh true true = refl
 same_fresh true false = refl
 same_fresh false g = refl
 
-same_wait : (b : Bool) (w : Wait) → w ≡ pick b w w
+same_wait : (b : Bool) (w : Option Wait) → w ≡ pick b w w
 same_wait true w = refl
 same_wait false w = refl
 
 module _ (d : Desk) (s : Sound d) (t c : ℕ) where
-  quiet : (a : Answer) → ((p : ℕ) → hands_out a p ≡ false) → ((w : Wait) → wait_after t a w ≡ w) → AfterAnswer d t c a d
+  quiet : (a : Answer) → ((p : ℕ) → hands_out a p ≡ false) → ((w : Option Wait) → wait_after t a w ≡ w) → AfterAnswer d t c a d
   quiet a h w =
       record {
         is_registered = λ k. refl;
@@ -70,7 +70,7 @@ module _ (d : Desk) (s : Sound d) (t c : ℕ) where
         (λ f. rw (f, eqb-true k c f, r, waiting_fresh p t (client_of d c)) (sym (and-true (fresh_in (client_of d c) q))))
         (λ f. rw f (sym (and-true (registered d k && fresh_in (client_of d k) q))))
 
-    waiting_wait : (k : ℕ) → pick (k == c) (waiting_of p t (client_of d c)).wait (wait_of d k) ≡ pick (k == c) (record { waiting = true; pid = p; since = t }) (wait_of d k)
+    waiting_wait : (k : ℕ) → pick (k == c) (waiting_of p t (client_of d c)).wait (wait_of d k) ≡ pick (k == c) (Some (record { pid = p; since = t })) (wait_of d k)
     waiting_wait k = rw (its_wait p t (client_of d c))
 
     reading_after : AfterAnswer d t c (Reading p) (put_client d c (taken_of p (client_of d c)))

@@ -1,5 +1,6 @@
 -- Ask (document 01, "Commands (desk)" and "Client cache"). Collect and give up are `waits`'.
-use Rattle.std.specs.Prelude.{◌≡◌, ℕ, Bool, true, false, not, List, [], ◌∷◌, length, take, replicate, ◌==◌, nat_lt, slice_index_or}
+use Rattle.std.specs.Prelude.{is_some}
+use Rattle.std.specs.Prelude.{Option, Some, ◌≡◌, ℕ, Bool, false, not, List, [], ◌∷◌, length, take, replicate, ◌==◌, nat_lt, slice_index_or}
 use Rattle.base.specs.Choice.{pick}
 use Rattle.base.specs.Refusal.{Rows, first_of}
 use Rattle.clients.specs.Rules.{taken_of, waiting_of}
@@ -28,8 +29,8 @@ hands_out Range q = false
 hands_out (Waiting p) q = false
 
 -- The wait of a client that is given the answer at a time: a new one begins if the answer names Waiting.
-abbrev pub wait_after : ℕ → Answer → Wait → Wait
-wait_after t (Waiting p) w = record { waiting = true; pid = p; since = t }
+abbrev pub wait_after : ℕ → Answer → Option Wait → Option Wait
+wait_after t (Waiting p) w = Some (record { pid = p; since = t })
 wait_after t (Reading p) w = w
 wait_after t Unable w = w
 wait_after t NoData w = w
@@ -109,7 +110,7 @@ busy d c Disconnected = false
 busy d c Empty = false
 busy d c Unclear = false
 busy d c (Stored n) = false
-busy d c (ToCache p) = (wait_of d c).waiting
+busy d c (ToCache p) = is_some (wait_of d c)
 
 -- An ask with a lent area of n bytes.
 abbrev pub ask_rows : Desk → ℕ → List RangeReply → Step → ℕ → Rows

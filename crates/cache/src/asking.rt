@@ -83,8 +83,7 @@ fn ask_cache(
         return refuse(core, 8);
     };
     let seat = core.clients[at];
-    let wait = seat.wait;
-    if wait.waiting {
+    if seat.wait.is_some() {
         return refuse(core, 9);
     }
     let i = pid as usize;

@@ -12,7 +12,7 @@ use Rattle.desk.specs.Rules.{client_of, put_client}
 use Rattle.desk.specs.declared.Desk.{Desk}
 use Rattle.desk.specs.declared.rest.Core.{Core as DeskCore}
 use Rattle.obd2.specs.Call.{ask, collect, give_up}
-use Rattle.obd2.specs.Core.{Lent, with_desk, box_of, answered_of, refusing, accepts, noted, no_notes, refused_is}
+use Rattle.obd2.specs.Core.{Lent, with_desk, box_of, answered_of, refusing, accepts, noted, no_notes, refused_by}
 use Rattle.obd2.specs.Done.{ranges, ask_step, cache_by, done_of}
 use Rattle.obd2.specs.History.{refused, accepting}
 use Rattle.obd2.specs.State as state
@@ -20,6 +20,8 @@ use Rattle.obd2.specs.declared.Said.TheVariants.{Asked as SaidAsked, Collected a
 use Rattle.obd2.specs.declared.State.{State}
 use Rattle.obd2.specs.declared.rest.Core.{Core}
 use Rattle.obd2.specs.declared.rest.Told.{Told}
+use Rattle.refusal.specs.Number.{number_of}
+use Rattle.refusal.specs.declared.Refusal.{Refusal}
 use Rattle.report.specs.Summary.{none_in}
 use Rattle.waits.specs.Ending.{collected_in, given_up_in}
 use Rattle.waits.specs.Rules.{collect_refusal, collect_of, collected_of, give_up_refusal, gave_up, give_up_of}
@@ -38,10 +40,10 @@ module _ (x : Lent) (replies : List (List ℕ)) (marks left : List (List Bool)) 
   s = box_of (with_desk x replies marks) k
 
   -- Refused by n: the desk that came back is the desk that it was.
-  pub served_refused : (d : DeskCore) (n : ℕ) (r : Told) → desk_of replies left d ≡ desk_of replies marks k.desk → r ≡ refusing (served k d) n
+  pub served_refused : (d : DeskCore) (n : ℕ) (q : Refusal) (r : Told) → number_of q ≡ n → desk_of replies left d ≡ desk_of replies marks k.desk → r ≡ refusing (served k d) q
       → answered_of (with_desk x replies left) r ≡ refused s n
-  served_refused d n r e f =
-      refused_is (with_desk x replies left) (served k d) r n f ∙ ap (λ (y : Desk). refused (state.with_desk s y) n) e
+  served_refused d n q r g e f =
+      refused_by (with_desk x replies left) (served k d) r q n g f ∙ ap (λ (y : Desk). refused (state.with_desk s y) n) e
 
   module _ (t c : ℕ) where
     -- Ask.

@@ -10,6 +10,7 @@ use clients::PLACES;
 use link::ranges::{RANGE_ROW, RANGES};
 use obd2::rest::{Core, Told};
 use obd2::{Said, telling};
+use refusal::Refusal;
 use reply::rows::ROW;
 
 // A client's command, answered by what the connection has stored or from the cache. The lent area gets the reply's
@@ -45,7 +46,7 @@ pub fn ask(
     let after = asked.core;
     core.desk = after;
     if asked.refusal != 0 {
-        return telling::refuse(core, asked.refusal);
+        return telling::refuse(core, Refusal::numbered(asked.refusal));
     }
     let lengths = asked.lengths;
     let notes = telling::lines_of(asked.lines, lengths);

@@ -9,6 +9,7 @@ ghost use Rattle.obd2.specs.Refusals.{row_refusal};
 use clients::PLACES;
 use obd2::rest::{Core, Told};
 use obd2::{Said, telling};
+use refusal::Refusal;
 use reply::rows::ROW;
 
 // The reply that the client waits for, into the lent area, and how long it waited.
@@ -30,7 +31,7 @@ pub fn collect(
     let after = collected.core;
     core.desk = after;
     if collected.refusal != 0 {
-        return telling::refuse(core, collected.refusal);
+        return telling::refuse(core, Refusal::numbered(collected.refusal));
     }
     let lengths = collected.lengths;
     let notes = telling::lines_of(collected.lines, lengths);

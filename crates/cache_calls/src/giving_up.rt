@@ -5,6 +5,7 @@ ghost use Rattle.obd2.specs.Answers.{Answers};
 
 use obd2::rest::{Core, Told};
 use obd2::{Said, telling};
+use refusal::Refusal;
 
 // The client waits no longer, and is answered NO DATA.
 pub fn give_up(mut core: Core, time: u64, number: u32) -> Told
@@ -15,7 +16,7 @@ pub fn give_up(mut core: Core, time: u64, number: u32) -> Told
     let after = ended.core;
     core.desk = after;
     if ended.refusal != 0 {
-        return telling::refuse(core, ended.refusal);
+        return telling::refuse(core, Refusal::numbered(ended.refusal));
     }
     let notes = telling::no_notes();
     telling::accept(core, time, Said::GivenUp, notes)

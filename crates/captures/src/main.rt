@@ -8,6 +8,7 @@ ghost use Rattle.capture_stream.specs.Machine.{owed_for, most_text, part_size, l
 use capture_stream::Reading;
 use std::io;
 use std::io::{Read, Write};
+use writing::Text;
 
 // The part of the input that is read at a time.
 const INPUT: usize = capture_stream::PART;
@@ -23,13 +24,11 @@ struct Turn {
     ended: bool,
 }
 
-// Writes so many bytes, and tells whether it could.
-fn flush<W: Write>(written: usize, out: &[u8], writer: &mut W) -> bool {
-    let n = base::least(written, out.len());
-    match writer.write_all(&out[..n]) {
-        Ok(()) => true,
-        Err(_) => false,
-    }
+// Writes what is put together, and tells whether it could.
+fn flush<const N: usize, W: Write>(out: &mut Text<N>, writer: &mut W) -> bool {
+    let wrote = writer.write_all(out.as_slice()).is_ok();
+    out.clear();
+    wrote
 }
 
 // Whether it was written, and some of the input used.
@@ -40,11 +39,11 @@ fn went_on(wrote: bool, used: usize) -> bool
 }
 
 // Feeds a part of the input. It goes on unless nothing can be written any more, or counted in 64 bits.
-fn feed_part<W: Write>(
+fn feed_part<const N: usize, W: Write>(
     reading: Reading,
     input: &[u8],
     hold: &mut [u8],
-    out: &mut [u8],
+    out: &mut Text<N>,
     writer: &mut W,
 ) -> Turn {
     let mut current = reading;
@@ -52,7 +51,7 @@ fn feed_part<W: Write>(
     let mut at = 0;
     while more && at < input.len() {
         let fed = capture_stream::feed(current, hold, &input[at..], out);
-        more = went_on(flush(fed.written, out, writer), fed.used);
+        more = went_on(flush(out, writer), fed.used);
         current = fed.reading;
         at += fed.used;
     }
@@ -63,10 +62,10 @@ fn feed_part<W: Write>(
     }
 }
 
-fn read_part<R: Read, W: Write>(
+fn read_part<const N: usize, R: Read, W: Write>(
     reading: Reading,
     hold: &mut [u8],
-    out: &mut [u8],
+    out: &mut Text<N>,
     reader: &mut R,
     writer: &mut W,
 ) -> io::Result<Turn> {
@@ -83,23 +82,23 @@ fn read_part<R: Read, W: Write>(
 }
 
 // The last line, where the input has ended: behind a line that could not be written there is none.
-fn finish<W: Write>(turn: Turn, out: &mut [u8], writer: &mut W) {
+fn finish<const N: usize, W: Write>(turn: Turn, out: &mut Text<N>, writer: &mut W) {
     if turn.ended {
-        let n = capture_stream::finish(turn.reading, out);
-        flush(n, out, writer);
+        capture_stream::finish(turn.reading, out);
+        flush(out, writer);
     }
 }
 
 // A proved loop has to end, and nothing says that an input does: the turns are counted down from a number that no run uses up. The
 // memory is what `fed_output` of crates/capture_stream/specs/Used.antt asks for.
-fn run<R: Read, W: Write>(
+fn run<const N: usize, R: Read, W: Write>(
     hold: &mut [u8],
-    out: &mut [u8],
+    out: &mut Text<N>,
     reader: &mut R,
     writer: &mut W,
 ) -> io::Result<()>
     requires longest_record_in_bounds { longest_record ≤ length hold.old }
-    requires part_size_in_bounds { owed_for longest_record + most_text * part_size ≤ length out.old }
+    requires part_size_in_bounds { owed_for longest_record + most_text * part_size ≤ N }
 {
     let mut reading = capture_stream::start();
     let mut turns = u64::MAX;
@@ -119,6 +118,6 @@ fn main(rt: HostRuntime) -> io::Result<()> {
     let mut reader = rt.stdin();
     let mut writer = rt.stdout();
     let mut hold = [0u8; capture_stream::HOLD];
-    let mut out = [0u8; OUTPUT];
+    let mut out: Text<OUTPUT> = Text::new();
     run(&mut hold, &mut out, &mut reader, &mut writer)
 }

@@ -1,5 +1,5 @@
 -- Laws of the definitions of `Rules`: finding a client by its number, before and after a change.
-use Rattle.std.specs.Prelude.{Bool, ◌&&◌, ◌||◌, not, ◌≡◌, length, set, get_or, replicate}
+use Rattle.std.specs.Prelude.{Some, Bool, ◌&&◌, ◌||◌, not, ◌≡◌, length, set, get_or, replicate}
 use Rattle.std.proofs.Math.Bool.{true, false, or-false, or-true, and-true, and-false}
 use mathlib.Core.List.{List, [], ◌∷◌, map}
 use Rattle.std.proofs.Math.Path.{refl, sym}
@@ -242,7 +242,7 @@ module _ (p t : ℕ) (x : Client) where
   unfolding waiting_of
   waiting_number = refl
 
-  pub waiting_wait : (waiting_of p t x).wait ≡ record { waiting = true; pid = p; since = t }
+  pub waiting_wait : (waiting_of p t x).wait ≡ Some (record { pid = p; since = t })
   unfolding waiting_of
   waiting_wait = refl
 

@@ -1,5 +1,5 @@
 -- The places of the clients. A client is spoken of by its number, never by its place.
-use Rattle.std.specs.Prelude.{Bool, true, false, ◌&&◌, not, List, [], ◌∷◌, ℕ, suc, ltb, eqb, set, get_or, replicate}
+use Rattle.std.specs.Prelude.{Option, Some, None, Bool, true, false, ◌&&◌, not, List, [], ◌∷◌, ℕ, suc, ltb, eqb, set, get_or, replicate}
 use Rattle.base.specs.Choice.{pick}
 use Rattle.clients.specs.declared.Wait.{Wait}
 use Rattle.clients.specs.declared.Client.{Client}
@@ -7,8 +7,17 @@ use Rattle.clients.specs.declared.Client.{Client}
 abbrev pub places : ℕ
 places = 8
 
-abbrev pub idle : Wait
-idle = record { waiting = false; pid = 0; since = 0 }
+abbrev pub idle : Option Wait
+idle = None
+
+-- What is waited for, and since when: 0 where nothing is.
+abbrev pub pid_in : Option Wait → ℕ
+pid_in None = 0
+pid_in (Some w) = w.pid
+
+abbrev pub since_in : Option Wait → ℕ
+since_in None = 0
+since_in (Some w) = w.since
 
 unfoldable pub newcomer : ℕ → Client
 newcomer n = record { number = n; wait = idle; fresh = replicate 256 false }
@@ -20,7 +29,7 @@ nobody = record { number = 0; wait = idle; fresh = [] }
 abbrev pub with_fresh : Client → List Bool → Client
 with_fresh x f = record { number = x.number; wait = x.wait; fresh = f }
 
-abbrev pub with_wait : Client → Wait → Client
+abbrev pub with_wait : Client → Option Wait → Client
 with_wait x w = record { number = x.number; wait = w; fresh = x.fresh }
 
 -- The first place of a number, or the number of places.
@@ -35,7 +44,7 @@ unfoldable pub taken_of : ℕ → Client → Client
 taken_of p x = with_fresh x (set x.fresh p false)
 
 unfoldable pub waiting_of : ℕ → ℕ → Client → Client
-waiting_of p t x = with_wait x (record { waiting = true; pid = p; since = t })
+waiting_of p t x = with_wait x (Some (record { pid = p; since = t }))
 
 unfoldable pub idled_of : Client → Client
 idled_of x = with_wait x idle

@@ -9,19 +9,18 @@ ghost use Rattle.clients.specs.Rules.{newcomer};
 // The most clients registered at one time.
 pub const PLACES: usize = 8;
 
-// What a client waits for: a PID, since a time. A client waits for one PID at a time.
+// What a client waits for: a PID, since a time.
 #[derive(Clone, Copy)]
 pub struct Wait {
-    pub waiting: bool,
     pub pid: u8,
     pub since: u64,
 }
 
-// A number of 0 is a free place. A mark says that a reply for the PID came that this client was not handed yet.
+// A number of 0 is a free place. A client waits for one PID at a time. A mark says that a reply for the PID came that this client was not handed yet.
 #[derive(Clone, Copy)]
 pub struct Client {
     pub number: u32,
-    pub wait: Wait,
+    pub wait: Option<Wait>,
     pub fresh: [bool; 256],
 }
 
@@ -29,14 +28,9 @@ pub struct Client {
 pub fn new(number: u32) -> Client
     ensures { result ≡ newcomer number }
 {
-    let idle = Wait {
-        waiting: false,
-        pid: 0,
-        since: 0,
-    };
     Client {
-        number: number,
-        wait: idle,
+        number,
+        wait: None,
         fresh: [false; 256],
     }
 }

@@ -1,6 +1,6 @@
 // The clients' places, each with its number and wait, by value; their fresh marks are lent, a row for each place.
 ghost use Rattle.std.specs.Prelude.{Bool, List, [], map, ◌≡◌, ◌==◌, length, position};
-ghost use Rattle.clients.specs.Rules.{places, idle, place_of, seat_of, marked_of, waiting_of, idled_of};
+ghost use Rattle.clients.specs.Rules.{places, place_of, seat_of, marked_of, waiting_of, idled_of};
 ghost use Rattle.clients.specs.Seats.{Found, seated, seat_in, marks_in, new_seat, no_marks, clients_of, vacant_seats, blank_marks, nobodies};
 
 use super::{Client, PLACES, Wait};
@@ -9,28 +9,14 @@ use super::{Client, PLACES, Wait};
 #[derive(Clone, Copy)]
 pub struct Seat {
     pub number: u32,
-    pub wait: Wait,
-}
-
-fn idle() -> Wait
-    ensures { result ≡ idle }
-{
-    Wait {
-        waiting: false,
-        pid: 0,
-        since: 0,
-    }
+    pub wait: Option<Wait>,
 }
 
 // A place that has just been given: its client waits for nothing. Number 0 makes a free place.
 pub fn new(number: u32) -> Seat
     ensures { result ≡ new_seat number }
 {
-    let wait = idle();
-    Seat {
-        number: number,
-        wait: wait,
-    }
+    Seat { number, wait: None }
 }
 
 // The marks of a client for which no reply came yet.
@@ -82,12 +68,7 @@ pub fn mark_all(marks: &mut [[bool; 256]; PLACES], seats: [Seat; PLACES], pid: u
 pub fn begin_wait(mut seat: Seat, pid: u8, time: u64) -> Seat
     ensures { (marks : List Bool) → seated marks result ≡ waiting_of pid time (seated marks seat) }
 {
-    let wait = Wait {
-        waiting: true,
-        pid: pid,
-        since: time,
-    };
-    seat.wait = wait;
+    seat.wait = Some(Wait { pid, since: time });
     seat
 }
 
@@ -95,8 +76,7 @@ pub fn begin_wait(mut seat: Seat, pid: u8, time: u64) -> Seat
 pub fn end_wait(mut seat: Seat) -> Seat
     ensures { (marks : List Bool) → seated marks result ≡ idled_of (seated marks seat) }
 {
-    let wait = idle();
-    seat.wait = wait;
+    seat.wait = None;
     seat
 }
 

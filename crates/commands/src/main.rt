@@ -5,12 +5,16 @@
 use std::io;
 use std::io::{Read, Write};
 use transcript::Line;
+use writing::Text;
 
 // The part of the input that is read at a time.
 const INPUT: usize = 4096;
 
 // Nine bytes of room for each that is read are what `feed` asks.
 const OUTPUT: usize = 36864;
+
+// The most that follows a line.
+const TAIL: usize = 9;
 
 // Reads once and writes what that gives: the line after it, none where the input is at its end.
 fn copy_some<R: Read, W: Write>(
@@ -19,23 +23,21 @@ fn copy_some<R: Read, W: Write>(
     writer: &mut W,
 ) -> io::Result<Option<Line>> {
     let mut input = [0u8; INPUT];
-    let mut out = [0u8; OUTPUT];
+    let mut out: Text<OUTPUT> = Text::new();
     let n = reader.read(&mut input)?;
     if n == 0 {
         return Ok(None);
     }
     let fed = transcript::feed(line, &input[..n], &mut out);
-    let written = fed.written;
     let next = fed.line;
-    writer.write_all(&out[..written])?;
+    writer.write_all(out.as_slice())?;
     Ok(Some(next))
 }
 
 fn write_last<W: Write>(line: Line, writer: &mut W) -> io::Result<()> {
-    let last = transcript::finish(line);
-    let bytes = last.bytes;
-    let n = last.len;
-    writer.write_all(&bytes[..n])
+    let mut last: Text<TAIL> = Text::new();
+    transcript::finish(line, &mut last);
+    writer.write_all(last.as_slice())
 }
 
 // A proved loop has to end, and nothing says that an input does: it takes no more turns than a number

@@ -37,18 +37,19 @@ pub struct Settings {
 // What a profile of lights asks of the poller (the Rust's LedProfile).
 #[derive(Clone, Copy)]
 pub struct Profile {
-    // 0 the active normal profile, 1 an overlay, 2 a triggered one; the box refuses other numbers
+    // 0 the active normal profile, 1 an overlay, 2 a triggered one. A number and no enum, as the priority is, since a caller
+    // may hand in an unknown one, which the box refuses.
     pub kind: u8,
     pub pid: u8,
-    // 0 Fast, 1 Slow; the box refuses other numbers
+    // 0 Fast, 1 Slow
     pub priority: u8,
-    // whether there is a threshold (auto_disable_above), and the threshold
-    pub limited: bool,
-    pub threshold: u32,
+    // auto_disable_above
+    pub threshold: Option<u32>,
     pub enabled: bool,
 }
 
-// The profiles in force: the first `count` of `list`. A count above 16 is a list that the box refuses.
+// The profiles in force: the first `count` of `list`. A count above 16 is a list that the box refuses. An array with its count,
+// since the box runs in fixed memory.
 #[derive(Clone, Copy)]
 pub struct Profiles {
     pub list: [Profile; 16],
@@ -77,8 +78,7 @@ pub fn no_profiles() -> Profiles
         kind: 0,
         pid: 0,
         priority: 0,
-        limited: false,
-        threshold: 0,
+        threshold: None,
         enabled: false,
     };
     Profiles {

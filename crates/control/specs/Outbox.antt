@@ -1,24 +1,20 @@
 -- The messages of one call, and what sending one more does to them.
-use Rattle.std.specs.Prelude.{List, [], ◌∷◌, ◌++◌, map, ◌≡◌, refl, ℕ, suc, ◌+◌, ◌<◌, ◌≤◌, ltb, length, set, take, replicate}
-use Rattle.std.proofs.Common.{append-nil, append_assoc, ap, sym, ◌∙◌, arith, add-one, lt-ltb, length-set, take-suc-set}
+use Rattle.std.specs.Prelude.{List, [], ◌∷◌, ◌++◌, ◌≡◌, refl, ℕ, suc, ◌+◌, ◌<◌, ◌≤◌, ltb, length, set, take, replicate}
+use Rattle.std.proofs.Common.{append-nil, append_assoc, sym, ◌∙◌, arith, add-one, lt-ltb, length-set, take-suc-set}
 use Rattle.std.proofs.lemmas.List.{length-replicate}
 use Rattle.base.specs.Choice.{pick}
 use Rattle.config.specs.declared.PidPriority.TheVariants.{Fast}
 use Rattle.control.specs.declared.DongleMessage.{DongleMessage}
 use Rattle.control.specs.declared.DongleMessage.TheVariants.{SetPidPriority}
-use Rattle.control.specs.declared.outbox.Slot.{Slot}
 use Rattle.control.specs.declared.outbox.Outbox.{Outbox}
 
-abbrev pub slot_of : DongleMessage → Slot
-slot_of m = record { message = m }
-
 unfoldable pub empty_of : Outbox
-empty_of = record { slots = replicate 257 (slot_of (SetPidPriority 0 Fast)); count = 0 }
+empty_of = record { slots = replicate 257 (SetPidPriority 0 Fast); count = 0 }
 
 unfoldable pub push_of : Outbox → DongleMessage → Outbox
 push_of o m =
     pick (ltb o.count 257)
-    (record { slots = set o.slots o.count (slot_of m); count = o.count + 1 })
+    (record { slots = set o.slots o.count m; count = o.count + 1 })
     o
 
 -- Several messages, the first first.
@@ -28,7 +24,7 @@ send_all o (m ∷ ms) = send_all (push_of o m) ms
 
 -- What an outbox says: its messages, in order.
 unfoldable pub messages : Outbox → List DongleMessage
-messages o = map (λ (s : Slot). s.message) (take o.count o.slots)
+messages o = take o.count o.slots
 
 pub send_append : (o : Outbox) (ms ns : List DongleMessage) → send_all o (ms ++ ns) ≡ send_all (send_all o ms) ns
 unfolding send_all
@@ -42,10 +38,6 @@ send_one o m = refl
 pub send_none : (o : Outbox) → send_all o [] ≡ o
 unfolding send_all
 send_none o = refl
-
-map_append : (xs ys : List Slot) → map (λ (s : Slot). s.message) (xs ++ ys) ≡ map (λ (s : Slot). s.message) xs ++ map (λ (s : Slot). s.message) ys
-map_append [] ys = refl
-map_append (x ∷ xs) ys = ap (λ (t : List DongleMessage). x.message ∷ t) (map_append xs ys)
 
 -- An outbox whose array is whole and that holds n messages.
 pub record Holds (o : Outbox) (n : ℕ) : Type 0 where
@@ -64,8 +56,7 @@ unfolding push_of messages
 push_messages o m n h k =
     let a = k.many in
     let b = k.whole in
-    rw (lt-ltb o.count 257 (omega arith), add-one, take-suc-set o.slots o.count (slot_of m) (omega arith))
-    (map_append (take o.count o.slots) (slot_of m ∷ []))
+    rw (lt-ltb o.count 257 (omega arith), add-one, take-suc-set o.slots o.count m (omega arith))
 
 -- Where there is room for them, messages sent stand behind those that were there.
 pub send_messages : (ms : List DongleMessage) (o : Outbox) (n : ℕ) → n + length ms ≤ 257 → Holds o n → messages (send_all o ms) ≡ messages o ++ ms
@@ -84,7 +75,7 @@ send_holds (m ∷ ms) o n h k =
 
 pub empty_holds : Holds empty_of 0
 unfolding empty_of
-empty_holds = record { whole = length-replicate 257 (slot_of (SetPidPriority 0 Fast)); many = refl }
+empty_holds = record { whole = length-replicate 257 (SetPidPriority 0 Fast); many = refl }
 
 pub empty_messages : messages empty_of ≡ []
 unfolding messages empty_of

@@ -5,25 +5,18 @@ ghost use Rattle.control.specs.Outbox.{empty_of, push_of};
 use crate::DongleMessage;
 use config::PidPriority;
 
-// A message in a struct of its own, so that an array can hold it.
-#[derive(Clone, Copy)]
-pub struct Slot {
-    pub message: DongleMessage,
-}
-
-// The first `count` of `slots`. No call sends more than 257.
+// The first `count` of `slots`. No call sends more than 257. An array with its count, since the box runs in fixed memory.
 #[derive(Clone, Copy)]
 pub struct Outbox {
-    pub slots: [Slot; 257],
+    pub slots: [DongleMessage; 257],
     pub count: u16,
 }
 
+#[tactic(auto, unfolding(crate::specs::Outbox::empty_of))]
 pub fn empty() -> Outbox
     ensures { result ≡ empty_of }
 {
-    let unused = Slot {
-        message: DongleMessage::SetPidPriority(0, PidPriority::Fast),
-    };
+    let unused = DongleMessage::SetPidPriority(0, PidPriority::Fast);
     Outbox {
         slots: [unused; 257],
         count: 0,
@@ -31,16 +24,14 @@ pub fn empty() -> Outbox
 }
 
 // The message behind the others; in a full outbox nothing changes.
+#[tactic(auto, unfolding(crate::specs::Outbox::push_of))]
 pub fn push(mut outbox: Outbox, message: DongleMessage) -> Outbox
     ensures { result ≡ push_of outbox message }
 {
     if outbox.count < 257 {
         let at = outbox.count as usize;
-        let slot = Slot { message: message };
-        outbox.slots[at] = slot;
-        outbox.count = outbox.count + 1;
-        outbox
-    } else {
-        outbox
+        outbox.slots[at] = message;
+        outbox.count += 1;
     }
+    outbox
 }

@@ -1,17 +1,12 @@
 -- The control line's places as rows of numbers: what they mean.
-use Rattle.std.specs.Prelude.{List, [], ◌∷◌, map, ◌≡◌, refl, false, ℕ, ◌%◌, eqb, length, get_or, replicate}
-use Rattle.std.proofs.Common.{ap}
-use Rattle.std.proofs.lemmas.List.{length-replicate}
+use Rattle.std.specs.Prelude.{Some, List, [], ◌∷◌, map, ◌≡◌, refl, false, ℕ, ◌%◌, eqb, get_or, replicate}
 use Rattle.std.proofs.Math.ListN.{get_or-map}
 use Rattle.control_line.specs.Ring.{unused, empty_line, take_of}
-use Rattle.control_line.specs.declared.Taken.TheVariants.{Message}
 use Rattle.base.specs.Choice.{pick}
 use Rattle.base.specs.Each.{map_replicate}
 use Rattle.config.specs.declared.PidPriority.TheVariants.{Fast, Slow}
-use Rattle.control.specs.Outbox.{slot_of}
 use Rattle.control.specs.declared.DongleMessage.{DongleMessage}
 use Rattle.control.specs.declared.DongleMessage.TheVariants.{SetPidPriority, RemovePid}
-use Rattle.control.specs.declared.outbox.Slot.{Slot}
 use Rattle.control_line.specs.declared.ControlLine.{ControlLine}
 use Rattle.control_line.specs.declared.places.Ends.{Ends}
 
@@ -23,11 +18,11 @@ row_of (RemovePid p) = 2 ∷ p ∷ []
 abbrev pub message_in : ℕ → ℕ → DongleMessage
 message_in k p = pick (eqb k 0) (SetPidPriority p Fast) (pick (eqb k 1) (SetPidPriority p Slow) (RemovePid p))
 
-abbrev pub slot_at : List ℕ → Slot
-slot_at row = slot_of (message_in (get_or row 0 0) (get_or row 1 0))
+abbrev pub slot_at : List ℕ → DongleMessage
+slot_at row = message_in (get_or row 0 0) (get_or row 1 0)
 
 -- What all places have.
-abbrev pub slots_of : List (List ℕ) → List Slot
+abbrev pub slots_of : List (List ℕ) → List DongleMessage
 slots_of rows = map slot_at rows
 
 -- THE CONTROL LINE that the lent places and the two ends are.
@@ -42,7 +37,7 @@ pub line_empty : line_of unused_rows (record { head = 0; count = 0 }) ≡ empty_
 unfolding line_of unused_rows empty_line
 line_empty = rw (map_replicate slot_at 1024 (0 ∷ 0 ∷ []))
 
-pub read_back : (m : DongleMessage) → slot_at (row_of m) ≡ slot_of m
+pub read_back : (m : DongleMessage) → slot_at (row_of m) ≡ m
 read_back (SetPidPriority p Fast) = refl
 read_back (SetPidPriority p Slow) = refl
 read_back (RemovePid p) = refl
@@ -50,17 +45,11 @@ read_back (RemovePid p) = refl
 pub read_at : (rows : List (List ℕ)) (i : ℕ) → get_or (map slot_at rows) i unused ≡ slot_at (get_or rows i [])
 read_at rows i = get_or-map slot_at rows i []
 
-pub take_said : (rows : List (List ℕ)) (e : Ends) → eqb e.count 0 ≡ false → (take_of (line_of rows e)).taken ≡ Message (message_in (get_or (get_or rows (e.head % 1024) []) 0 0) (get_or (get_or rows (e.head % 1024) []) 1 0))
+pub take_said : (rows : List (List ℕ)) (e : Ends) → eqb e.count 0 ≡ false → (take_of (line_of rows e)).taken ≡ Some (message_in (get_or (get_or rows (e.head % 1024) []) 0 0) (get_or (get_or rows (e.head % 1024) []) 1 0))
 unfolding take_of line_of
-take_said rows e h = rw (h, ap (λ (s : Slot). s.message) (read_at rows (e.head % 1024)))
+take_said rows e h = rw (h, read_at rows (e.head % 1024))
 
-unfoldable pub unused_slots : List Slot
-unused_slots = replicate 1024 unused
-
-pub unused_length : length unused_rows ≡ 1024
-unfolding unused_rows
-unused_length = length-replicate {A = List ℕ} 1024 (0 ∷ 0 ∷ [])
-
-pub unused_slots_length : length unused_slots ≡ 1024
-unfolding unused_slots
-unused_slots_length = length-replicate 1024 unused
+-- Rows that were made of messages are those messages.
+pub all_back : (ms : List DongleMessage) → slots_of (map row_of ms) ≡ ms
+all_back [] = refl
+all_back (m ∷ ms) = rw (read_back m, all_back ms)

@@ -1,32 +1,32 @@
 // The control line with its places lent: a message is a row of two numbers, its kind (0 fast, 1 slow, 2 removed) and its
-// PID.
+// PID. Numbers and no enum, since a caller lends them, and may have written any.
 ghost use Rattle.std.specs.Prelude.{◌≡◌};
 ghost use Rattle.control.specs.Outbox.{messages};
 ghost use Rattle.control_line.specs.Ring.{empty_line, push_of, push_all_of, take_of};
-ghost use Rattle.control_line.specs.Rows.{row_of, message_in, slots_of, unused_rows, unused_slots, line_of};
+ghost use Rattle.control_line.specs.Rows.{row_of, message_in, slot_at, slots_of, unused_rows, line_of};
 
-use super::Taken;
 use config::PidPriority;
 use control::DongleMessage;
-use control::outbox::{Outbox, Slot};
+use control::outbox::Outbox;
 
 // How many messages the line holds.
 pub const PLACES: usize = 1024;
 
 // Where the messages begin, and how many they are. A count above 1,024 counts as 1,024.
-
 #[derive(Clone, Copy)]
 pub struct Ends {
     pub head: u16,
     pub count: u16,
 }
 
+// What is left of a line, and the message that was its first.
 #[derive(Clone, Copy)]
 pub struct Shorter {
     pub ends: Ends,
-    pub taken: Taken,
+    pub taken: Option<DongleMessage>,
 }
 
+#[tactic(auto, unfolding(crate::specs::Rows::unused_rows))]
 fn unused() -> [[u8; 2]; PLACES]
     ensures { result ≡ unused_rows }
 {
@@ -72,10 +72,8 @@ fn push(rows: &mut [[u8; 2]; PLACES], mut ends: Ends, message: DongleMessage) ->
 {
     if ends.count < 1024 {
         let at = (ends.head as usize + ends.count as usize) % 1024;
-        let row = row_of(message);
-        rows[at] = row;
-        ends.count = ends.count + 1;
-        return ends;
+        rows[at] = row_of(message);
+        ends.count += 1;
     }
     ends
 }
@@ -84,13 +82,8 @@ fn push(rows: &mut [[u8; 2]; PLACES], mut ends: Ends, message: DongleMessage) ->
 pub fn push_all(rows: &mut [[u8; 2]; PLACES], mut ends: Ends, outbox: Outbox) -> Ends
     ensures { line_of rows.new result ≡ push_all_of (line_of rows.old ends) (messages outbox) }
 {
-    let n = super::held(outbox.count);
-    let mut i = 0;
-    while i < n {
-        let slot = outbox.slots[i];
-        let message = slot.message;
-        ends = push(rows, ends, message);
-        i += 1;
+    for message in &outbox.slots[..super::held(outbox.count)] {
+        ends = push(rows, ends, *message);
     }
     ends
 }
@@ -101,58 +94,35 @@ pub fn take(rows: &[[u8; 2]; PLACES], mut ends: Ends) -> Shorter
     ensures taken_value { result.taken ≡ (take_of (line_of rows.now ends)).taken }
 {
     if ends.count == 0 {
-        return Shorter {
-            ends: ends,
-            taken: Taken::Nothing,
-        };
+        return Shorter { ends, taken: None };
     }
     let at = ends.head % 1024;
     let row = rows[at as usize];
     let message = message_in(row[0], row[1]);
     ends.head = (at + 1) % 1024;
-    ends.count = ends.count - 1;
+    ends.count -= 1;
     Shorter {
-        ends: ends,
-        taken: Taken::Message(message),
+        ends,
+        taken: Some(message),
     }
 }
 
 // The rows of all places.
-pub fn pack_all(slots: [Slot; PLACES]) -> [[u8; 2]; PLACES]
+pub fn pack_all(slots: [DongleMessage; PLACES]) -> [[u8; 2]; PLACES]
     ensures { slots_of result ≡ slots }
 {
-    let mut rows = unused();
-    let mut i: usize = 0;
-    while i < PLACES {
-        let slot = slots[i];
-        let message = slot.message;
-        let row = row_of(message);
-        rows[i] = row;
-        i += 1;
-    }
-    rows
+    slots.map(row_of)
 }
 
-fn unused_slots() -> [Slot; PLACES]
-    ensures { result ≡ unused_slots }
+fn of_row(row: [u8; 2]) -> DongleMessage
+    ensures { result ≡ slot_at row }
 {
-    let slot = Slot {
-        message: DongleMessage::SetPidPriority(0, PidPriority::Fast),
-    };
-    [slot; PLACES]
+    message_in(row[0], row[1])
 }
 
 // What all places have.
-pub fn unpack_all(rows: [[u8; 2]; PLACES]) -> [Slot; PLACES]
+pub fn unpack_all(rows: [[u8; 2]; PLACES]) -> [DongleMessage; PLACES]
     ensures { result ≡ slots_of rows }
 {
-    let mut slots = unused_slots();
-    let mut i: usize = 0;
-    while i < PLACES {
-        let row = rows[i];
-        let message = message_in(row[0], row[1]);
-        slots[i] = Slot { message: message };
-        i += 1;
-    }
-    slots
+    rows.map(of_row)
 }

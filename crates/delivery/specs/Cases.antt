@@ -1,9 +1,11 @@
 -- Each definition of `Rules`, case by case: what the proofs of the functions and of the laws cite.
-use Rattle.std.specs.Prelude.{true, false, List, ◌≡◌, ltb, leb, eqb, length, get_or, take, drop}
+use Rattle.std.specs.List.{list_any}
+use Rattle.reply.specs.declared.Reply.{Reply}
+use Rattle.std.specs.Prelude.{Bool, [], ◌∷◌, ◌||◌, not, min, Option, Some, true, false, List, ◌≡◌, ltb, leb, eqb, length, get_or, take, drop}
 use Prim.Native.Nat.{ℕ, suc, ◌+◌, ◌-◌, ◌/◌, ◌<◌, ◌≤◌}
 use native.Mathlib.Omega.{arith}
 use Rattle.std.proofs.Math.Numerals.{add-one}
-use Rattle.std.proofs.Common.{length-take, drop_of_length-le, drop-cons, ltb-false}
+use Rattle.std.proofs.Common.{length-take, drop_of_length-le, drop-cons, ltb-false, leb-true, leb-false, take_all, refl, ap}
 use Rattle.std.proofs.Math.Seq.{get_or-take}
 use Rattle.base.specs.Both.{never}
 use Rattle.base.specs.Choice.{cases}
@@ -11,8 +13,7 @@ use Rattle.base.specs.Each.{some_of}
 use Rattle.base.specs.Refusal.{first_of}
 use Rattle.config.specs.declared.Profiles.{Profiles}
 use Rattle.desk.specs.declared.Desk.{Desk}
-use Rattle.desk.specs.declared.Revs.{Revs}
-use Rattle.reply.specs.Rules.{max_pids}
+use Rattle.reply.specs.Rules.{max_pids, within_of}
 use Rattle.reply.specs.declared.Response.{Response}
 use Rattle.delivery.specs.Rules.{rpm, listed_of, rising_from, over, unfit, response_refusal, revs_after, turn_of, turns_of, unanswered, response_of}
 use Rattle.delivery.specs.declared.Answered.{Answered}
@@ -35,6 +36,23 @@ module _ {A : Type 0} (n : ℕ) (xs : List A) (h : length xs ≡ max_pids) where
   unfolding listed_of
   listed_at i d k = get_or-take n xs i d (omega arith)
 
+  listed_take : take (listed_of n) xs ≡ take n xs
+  unfolding listed_of
+  listed_take = cases _ (leb n max_pids)
+      (λ e. let k : min n max_pids ≡ n = omega (arith, leb-true n max_pids e) in rw k refl)
+      (λ e. let k : min n max_pids ≡ max_pids = omega (arith, leb-false n max_pids e) in
+      rw (k, take_all max_pids xs (omega arith), take_all n xs (omega (arith, leb-false n max_pids e))) refl)
+
+some_any : {A : Type 0} (g : A → Bool) (xs : List A) → list_any g xs ≡ some_of g xs
+unfolding some_of
+some_any g [] = refl
+some_any g (x ∷ xs) = ap (λ (b : Bool). g x || b) (some_any g xs)
+
+pub listed_over : (n : ℕ) (rs : List Reply) → length rs ≡ max_pids
+    → list_any (λ r. not (within_of r)) (take (listed_of n) rs) ≡ some_of over (take n rs)
+unfolding over
+listed_over n rs h = rw (listed_take n rs h) (some_any over (take n rs))
+
 module _ (xs : List ℕ) (least i : ℕ) where
   pub rising_low : i < length xs → leb least (get_or xs i 0) ≡ false → rising_from least (drop i xs) ≡ false
   unfolding rising_from
@@ -48,8 +66,8 @@ module _ (xs : List ℕ) (least i : ℕ) where
   unfolding rising_from
   rising_end h = rw (drop_of_length-le xs h)
 
-module _ (p v : ℕ) (old : Revs) where
-  pub revs_of_rpm : eqb p rpm ≡ true → revs_after p v old ≡ record { known = true; value = v / 4 }
+module _ (p v : ℕ) (old : Option ℕ) where
+  pub revs_of_rpm : eqb p rpm ≡ true → revs_after p v old ≡ Some (v / 4)
   unfolding revs_after
   revs_of_rpm e = rw e
 

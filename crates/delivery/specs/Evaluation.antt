@@ -1,8 +1,7 @@
 -- What a response tells before anything is stored: its answer but for the desk's replies and clients.
-use Rattle.std.specs.Prelude.{Bool, false, ◌≡◌, refl, ℕ, ◌+◌, set, replicate}
+use Rattle.std.specs.Prelude.{Option, Bool, false, ◌≡◌, refl, ℕ, ◌+◌, set, replicate}
 use Rattle.config.specs.declared.Profiles.{Profiles}
 use Rattle.desk.specs.declared.Desk.{Desk}
-use Rattle.desk.specs.declared.Revs.{Revs}
 use Rattle.reply.specs.Rules.{max_pids}
 use Rattle.reply.specs.declared.Response.{Response}
 use Rattle.triggers.specs.Rules.{switch_of, notice_of}
@@ -27,7 +26,7 @@ evaluated_turn r i e =
     }
 
 -- A turn, from what its parts answer.
-pub turn_by : (r : Response) (i : ℕ) (e : Evaluated) (v : ℕ) (revs : Revs) (ps : Profiles) (n : Bool)
+pub turn_by : (r : Response) (i : ℕ) (e : Evaluated) (v : ℕ) (revs : Option ℕ) (ps : Profiles) (n : Bool)
     → v ≡ value_at r i
     → revs ≡ revs_after (pid_at r i) v e.revs
     → ps ≡ switch_of (pid_at r i) v e.profiles
@@ -41,7 +40,7 @@ unfolding evaluated_turn turn_of deliver_of
 turn_evaluated r i a = refl
 
 module _ (d : Desk) (ps : Profiles) (r : Response) where
-  pub evaluated_start : (revs : Revs) → d.revs ≡ revs
+  pub evaluated_start : (revs : Option ℕ) → d.revs ≡ revs
       → record { revs = revs; profiles = ps; refusal = 0; values = replicate max_pids 0; notices = replicate max_pids false } ≡ evaluated_of (answer_after 0 d ps r)
   evaluated_start revs e = rw (answer_start d ps r, e)
 

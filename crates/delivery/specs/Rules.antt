@@ -1,12 +1,11 @@
 -- What a response does (document 01, "Client cache", and refusal 3).
-use Rattle.std.specs.Prelude.{Bool, true, false, ◌&&◌, ◌||◌, not, List, [], ◌∷◌, map, ℕ, zero, suc, ◌+◌, ◌/◌, min, ltb, leb, eqb, set, get_or, take, replicate}
+use Rattle.std.specs.Prelude.{Option, Some, Bool, true, false, ◌&&◌, ◌||◌, not, List, [], ◌∷◌, map, ℕ, zero, suc, ◌+◌, ◌/◌, min, ltb, leb, eqb, set, get_or, take, replicate}
 use Rattle.base.specs.Choice.{pick}
 use Rattle.base.specs.Each.{some_of}
 use Rattle.base.specs.Refusal.{Rows, first_of}
 use Rattle.clients.specs.Rules.{marked_of}
 use Rattle.config.specs.declared.Profiles.{Profiles}
 use Rattle.desk.specs.declared.Desk.{Desk}
-use Rattle.desk.specs.declared.Revs.{Revs}
 use Rattle.reply.specs.Rules.{max_pids, no_reply, within_of}
 use Rattle.reply.specs.declared.Reply.{Reply}
 use Rattle.reply.specs.declared.Response.{Response}
@@ -42,8 +41,8 @@ unfoldable pub response_refusal : Response → ℕ
 response_refusal r = first_of (response_rows r)
 
 -- The revs after a value v of the PID p.
-unfoldable pub revs_after : ℕ → ℕ → Revs → Revs
-revs_after p v old = pick (eqb p rpm) (record { known = true; value = v / 4 }) old
+unfoldable pub revs_after : ℕ → ℕ → Option ℕ → Option ℕ
+revs_after p v old = pick (eqb p rpm) (Some (v / 4)) old
 
 -- The reply is stored, and fresh for every registered client.
 unfoldable pub deliver_of : ℕ → Reply → ℕ → Desk → Desk

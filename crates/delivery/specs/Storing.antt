@@ -1,12 +1,11 @@
 -- What a response leaves at the desk, whose newest replies and fresh marks are lent.
-use Rattle.std.specs.Prelude.{Bool, true, List, map, ◌≡◌, refl, ℕ, ◌+◌, set}
+use Rattle.std.specs.Prelude.{Option, Bool, true, List, map, ◌≡◌, refl, ℕ, ◌+◌, set}
 use Rattle.std.proofs.Common.{ap}
 use Rattle.clients.specs.Rules.{marked_of}
 use Rattle.clients.specs.Seats.{clients_of}
 use Rattle.config.specs.declared.Profiles.{Profiles}
 use Rattle.desk.specs.Core.{desk_of}
 use Rattle.desk.specs.declared.Desk.{Desk}
-use Rattle.desk.specs.declared.Revs.{Revs}
 use Rattle.desk.specs.declared.rest.Core.{Core}
 use Rattle.reply.specs.Rows.{reply_in, stored_set}
 use Rattle.reply.specs.declared.Response.{Response}
@@ -17,7 +16,7 @@ use Rattle.delivery.specs.Evaluation.{evaluated_of}
 use Rattle.delivery.specs.declared.Answered.{Answered}
 use Rattle.delivery.specs.declared.evaluation.Evaluated.{Evaluated}
 
-abbrev pub with_revs : Core → Revs → Core
+abbrev pub with_revs : Core → Option ℕ → Core
 with_revs k revs = record { clients = k.clients; given = k.given; revs = revs }
 
 -- THE DESK d is what lent replies, lent marks and the rest are, once the rest has the desk's revs.

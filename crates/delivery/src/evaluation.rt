@@ -7,13 +7,12 @@ ghost use Rattle.delivery.specs.Evaluation.{evaluated_of, evaluated_turn};
 
 use super::{listed, refuses, revs_after};
 use config::Profiles;
-use desk::Revs;
 use reply::Response;
 
 // For each PID of the response its value, and whether a notice goes out since a profile was switched off.
 #[derive(Clone, Copy)]
 pub struct Evaluated {
-    pub revs: Revs,
+    pub revs: Option<u32>,
     pub profiles: Profiles,
     pub refusal: u8,
     pub values: [u32; reply::MAX_PIDS],
@@ -41,7 +40,7 @@ fn turn(mut evaluated: Evaluated, response: Response, i: usize) -> Evaluated
 }
 
 // The response's answer at any desk with these revs, but for the desk's replies and clients.
-pub fn evaluate(revs: Revs, profiles: Profiles, response: Response) -> Evaluated
+pub fn evaluate(revs: Option<u32>, profiles: Profiles, response: Response) -> Evaluated
     ensures { (d : Desk) → d.revs ≡ revs → result ≡ evaluated_of (response_of d profiles response) }
 {
     let mut evaluated = Evaluated {
@@ -56,10 +55,8 @@ pub fn evaluate(revs: Revs, profiles: Profiles, response: Response) -> Evaluated
         return evaluated;
     }
     let n = listed(response.count);
-    let mut i: usize = 0;
-    while i < n {
+    for i in 0..n {
         evaluated = turn(evaluated, response, i);
-        i += 1;
     }
     evaluated
 }

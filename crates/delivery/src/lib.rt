@@ -4,13 +4,15 @@
 pub mod evaluation;
 pub mod storing;
 
-ghost use Rattle.std.specs.Prelude.{◌≡◌, take};
+ghost use Rattle.std.specs.Prelude.{◌≡◌, not, take};
+ghost use Rattle.std.specs.List.{list_any};
 ghost use Rattle.base.specs.Each.{some_of};
+ghost use Rattle.reply.specs.Rules.{within_of};
 ghost use Rattle.delivery.specs.Rules.{listed_of, rising_from, over, unfit, revs_after};
 
 use config::Profiles;
-use desk::{Desk, Revs};
-use reply::Response;
+use desk::Desk;
+use reply::{Reply, Response};
 
 // The PID whose value is four times the engine's revs.
 const RPM: u8 = 0x0C;
@@ -29,12 +31,7 @@ pub struct Answered {
 fn listed(count: u8) -> usize
     ensures { result ≡ listed_of count }
 {
-    let n = count as usize;
-    if n < reply::MAX_PIDS {
-        n
-    } else {
-        reply::MAX_PIDS
-    }
+    usize::from(count).min(reply::MAX_PIDS)
 }
 
 // Whether each PID is above the one before.
@@ -43,57 +40,40 @@ fn rising(response: Response) -> bool
 {
     let n = listed(response.count);
     let mut least: u16 = 0;
-    let mut i: usize = 0;
-    while i < n {
+    for i in 0..n {
         let pid = response.pids[i] as u16;
         if pid < least {
             return false;
         }
         least = pid + 1;
-        i += 1;
     }
     true
 }
 
-// Whether some reply is over the limits.
+// Whether some reply that is read is over the limits.
 fn any_over(response: Response) -> bool
     ensures { result ≡ some_of over (take response.count response.replies) }
 {
-    let n = listed(response.count);
-    let mut i: usize = 0;
-    while i < n {
-        let reply = response.replies[i];
-        if !reply::within(reply) {
-            return true;
-        }
-        i += 1;
-    }
-    false
+    over_in(&response.replies[..listed(response.count)])
+}
+
+// Whether some of the replies is over the limits.
+fn over_in(replies: &[Reply]) -> bool
+    ensures { result ≡ list_any (λ r. not (within_of r)) replies.now }
+{
+    replies.iter().any(|reply| !reply::within(*reply))
 }
 
 // Whether the response is refused.
 fn refuses(response: Response) -> bool
     ensures { result ≡ unfit response }
 {
-    let count = response.count as usize;
-    if reply::MAX_PIDS < count {
-        return true;
-    }
-    if !rising(response) {
-        return true;
-    }
-    any_over(response)
+    usize::from(response.count) > reply::MAX_PIDS || !rising(response) || any_over(response)
 }
 
 // The revs, once the value of a PID came.
-fn revs_after(revs: Revs, pid: u8, value: u32) -> Revs
+fn revs_after(revs: Option<u32>, pid: u8, value: u32) -> Option<u32>
     ensures { result ≡ revs_after pid value revs }
 {
-    if pid == RPM {
-        return Revs {
-            known: true,
-            value: value / 4,
-        };
-    }
-    revs
+    if pid == RPM { Some(value / 4) } else { revs }
 }

@@ -29,14 +29,12 @@ pub fn store(
         return;
     }
     let n = listed(response.count);
-    let mut i: usize = 0;
-    while i < n {
+    for i in 0..n {
         let pid = response.pids[i];
         let brought = response.replies[i];
         let row = pid_list::row(pid);
         let packed = reply::rows::pack(brought);
         replies[row] = packed;
         clients::seats::mark_all(marks, clients, pid);
-        i += 1;
     }
 }

@@ -1,5 +1,5 @@
 -- The desk: who is registered, and the newest reply of each PID (document 01, "Client cache").
-use Rattle.std.specs.Prelude.{Bool, false, ◌&&◌, List, [], ◌∷◌, ℕ, ◌+◌, leb, eqb, set, get_or, replicate}
+use Rattle.std.specs.Prelude.{Option, Some, None, Bool, ◌&&◌, List, [], ◌∷◌, ℕ, ◌+◌, leb, eqb, set, get_or, replicate}
 use Rattle.base.specs.Choice.{pick}
 use Rattle.base.specs.Refusal.{Rows, first_of}
 use Rattle.clients.specs.Rules.{places, idle, newcomer, place_of, find_of, registered_of, fresh_in}
@@ -7,12 +7,16 @@ use Rattle.clients.specs.declared.Wait.{Wait}
 use Rattle.clients.specs.declared.Client.{Client}
 use Rattle.reply.specs.Rules.{empty_reply, no_reply}
 use Rattle.reply.specs.declared.Reply.{Reply}
-use Rattle.desk.specs.declared.Revs.{Revs}
 use Rattle.desk.specs.declared.Desk.{Desk}
 use Rattle.desk.specs.declared.Registered.{Registered}
 
-abbrev pub no_revs : Revs
-no_revs = record { known = false; value = 0 }
+abbrev pub no_revs : Option ℕ
+no_revs = None
+
+-- The revs as a number: 0 where none are known.
+abbrev pub revs_number : Option ℕ → ℕ
+revs_number None = 0
+revs_number (Some v) = v
 
 unfoldable pub start_desk : Desk
 start_desk = record { clients = replicate places (newcomer 0); store = replicate 256 empty_reply; given = 0; revs = no_revs }
@@ -30,7 +34,7 @@ client_of d c = find_of d.clients c
 unfoldable pub fresh : Desk → ℕ → ℕ → Bool
 fresh d c p = registered d c && fresh_in (client_of d c) p
 
-unfoldable pub wait_of : Desk → ℕ → Wait
+unfoldable pub wait_of : Desk → ℕ → Option Wait
 wait_of d c = pick (registered d c) (client_of d c).wait idle
 
 unfoldable pub stored : Desk → ℕ → Reply

@@ -1,5 +1,5 @@
 -- What holds of every desk that calls have made, and what is told of a desk after a call. A client is spoken of by its number.
-use Rattle.std.specs.Prelude.{Bool, true, ◌≡◌, ℕ, ◌<◌, ◌≤◌, length}
+use Rattle.std.specs.Prelude.{Option, Bool, true, ◌≡◌, ℕ, ◌<◌, ◌≤◌, length}
 use Rattle.base.specs.Times.{times}
 use Rattle.clients.specs.Rules.{places, numbers_of}
 use Rattle.clients.specs.declared.Wait.{Wait}
@@ -16,7 +16,7 @@ pub record Sound (d : Desk) : Type 0 where
   pub below : (c : ℕ) → d.given < c → times c (numbers_of d.clients) ≡ 0
 
 -- What a desk is after a call: who is registered, what is fresh for whom, who waits for what since when, and the newest replies.
-pub record After (e : Desk) (who : ℕ → Bool) (new : ℕ → ℕ → Bool) (wait : ℕ → Wait) (reply : ℕ → Reply) : Type 0 where
+pub record After (e : Desk) (who : ℕ → Bool) (new : ℕ → ℕ → Bool) (wait : ℕ → Option Wait) (reply : ℕ → Reply) : Type 0 where
   pub is_registered : (c : ℕ) → registered e c ≡ who c
   pub is_fresh : (c p : ℕ) → fresh e c p ≡ new c p
   pub waits : (c : ℕ) → wait_of e c ≡ wait c

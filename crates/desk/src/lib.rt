@@ -6,21 +6,15 @@ pub mod rest;
 use clients::Client;
 use reply::Reply;
 
-// The engine's revs (the Rust's shared_rpm), once a reply for PID 0Ch came.
-#[derive(Clone, Copy)]
-pub struct Revs {
-    pub known: bool,
-    pub value: u32,
-}
-
 // Each response goes to every registered client, so the newest reply of a PID stands once, for all of them;
-// each client's marks say whether that client was handed it.
+// each client's marks say whether that client was handed it. The engine's revs (the Rust's shared_rpm) are there once a
+// reply for PID 0Ch came.
 #[derive(Clone, Copy)]
 pub struct Desk {
     pub clients: [Client; clients::PLACES],
     pub store: [Reply; 256],
     pub given: u32,
-    pub revs: Revs,
+    pub revs: Option<u32>,
 }
 
 // The number is 0 where the call is refused.

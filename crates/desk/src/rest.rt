@@ -5,7 +5,6 @@ ghost use Rattle.clients.specs.Rules.{places};
 ghost use Rattle.desk.specs.Rules.{start_desk, register_refusal, register_of, leave_of};
 ghost use Rattle.desk.specs.Core.{desk_of};
 
-use super::Revs;
 use clients::PLACES;
 use clients::seats::Seat;
 use reply::rows::ROW;
@@ -17,7 +16,7 @@ const MOST_NUMBERS: u32 = 4294967294;
 pub struct Core {
     pub clients: [Seat; PLACES],
     pub given: u32,
-    pub revs: Revs,
+    pub revs: Option<u32>,
 }
 
 // The desk before any call, whatever its arrays had.
@@ -28,14 +27,10 @@ pub fn start(replies: &mut [[u8; ROW]; 256], marks: &mut [[bool; 256]; PLACES]) 
     *replies = reply::rows::blank();
     *marks = clients::seats::blank();
     let vacant = clients::seats::vacant();
-    let unknown = Revs {
-        known: false,
-        value: 0,
-    };
     Core {
         clients: vacant,
         given: 0,
-        revs: unknown,
+        revs: None,
     }
 }
 

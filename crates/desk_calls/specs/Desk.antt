@@ -23,7 +23,7 @@ use Rattle.obd2.specs.Done.{Managing, manager_by}
 use Rattle.obd2.specs.History.{accepting}
 use Rattle.obd2.specs.Refusals.{manager_rows}
 use Rattle.obd2.specs.State.{delivering}
-use Rattle.obd2.specs.declared.Answered.{Answered}
+use Rattle.obd2.specs.Answer.{Answered}
 use Rattle.obd2.specs.declared.Said.TheVariants.{Done, Client}
 use Rattle.obd2.specs.declared.State.{State}
 use Rattle.obd2.specs.declared.rest.Core.{Core}

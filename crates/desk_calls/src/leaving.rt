@@ -10,6 +10,7 @@ use manager::Event;
 use obd2::rest::{Core, Told};
 use obd2::{Said, telling};
 use passes::Terms;
+use refusal::Refusal;
 
 // The client's place is free again. A number that nobody has takes nobody out, and is not refused.
 pub fn leave(
@@ -58,7 +59,7 @@ pub fn leave(
     core.manager = kept;
     core.line = longer;
     if sent.refused {
-        return telling::refuse(core, 15);
+        return telling::refuse(core, Refusal::LineFull);
     }
     let desk = core.desk;
     let after = desk::rest::leave(marks, desk, number);

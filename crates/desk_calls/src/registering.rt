@@ -10,6 +10,7 @@ use manager::Event;
 use obd2::rest::{Core, Told};
 use obd2::{Said, telling};
 use passes::Terms;
+use refusal::Refusal;
 
 // A new client gets the next number.
 pub fn register(
@@ -36,7 +37,7 @@ pub fn register(
     let desk = core.desk;
     let number = desk::rest::refusal(desk);
     if number != 0 {
-        return telling::refuse(core, number);
+        return telling::refuse(core, Refusal::numbered(number));
     }
     let profiles = core.profiles;
     let manager = core.manager;
@@ -62,7 +63,7 @@ pub fn register(
     core.manager = kept;
     core.line = longer;
     if sent.refused {
-        return telling::refuse(core, 15);
+        return telling::refuse(core, Refusal::LineFull);
     }
     let entered = desk::rest::register(marks, desk);
     core.desk = entered;

@@ -10,6 +10,7 @@ use manager::Event;
 use obd2::rest::{Core, Told};
 use obd2::{Said, telling};
 use passes::Terms;
+use refusal::Refusal;
 use reply::Response;
 use reply::rows::ROW;
 
@@ -43,7 +44,7 @@ pub fn response(
     let revs = desk.revs;
     let evaluated = delivery::evaluation::evaluate(revs, profiles, response);
     if evaluated.refusal != 0 {
-        return telling::refuse(core, evaluated.refusal);
+        return telling::refuse(core, Refusal::numbered(evaluated.refusal));
     }
     let switched = evaluated.profiles;
     let manager = core.manager;
@@ -69,7 +70,7 @@ pub fn response(
     core.manager = kept;
     core.line = longer;
     if sent.refused {
-        return telling::refuse(core, 15);
+        return telling::refuse(core, Refusal::LineFull);
     }
     let clients = desk.clients;
     delivery::storing::store(replies, marks, clients, response);

@@ -8,7 +8,7 @@ use Rattle.obd2.specs.Core.{Lent}
 use Rattle.obd2.specs.Done.{done_of}
 use Rattle.obd2.specs.History.{lent_by, step}
 use Rattle.obd2.specs.Refusals.{refusal_of}
-use Rattle.obd2.specs.declared.Answered.{Answered}
+use Rattle.obd2.specs.Answer.{Answered}
 use Rattle.obd2.specs.declared.State.{State}
 use Rattle.obd2.specs.declared.call.Call.{Call}
 use Rattle.obd2.specs.declared.call.Call.TheVariants.{Register, Leave, Ask, Collect, GiveUp, Response, ProfilePidsChanged, Waiting, Consumed, Tick, SetSettings, TakeControl, Connect, ConnectFailed, ReconnectCheck, Begin, Next, Result}

@@ -14,7 +14,7 @@ use Rattle.obd2.specs.Keeps.{late, timely, step_late, step_timely, step_tells}
 use Rattle.obd2.specs.Refusals.{bad_time, row_refusal, refusal_of}
 use Rattle.obd2.specs.declared.State.{State}
 use Rattle.reply.specs.declared.Reply.{Reply}
-use Rattle.obd2.specs.declared.Answered.{Answered}
+use Rattle.obd2.specs.Answer.{Answered}
 use Rattle.obd2.specs.declared.call.Call.{Call}
 use Rattle.obd2.specs.declared.call.Brought.{Brought}
 use Rattle.dispatch.specs.Dispatch.{call_of, fills, area_by, area_of, Promised, All}

@@ -14,6 +14,7 @@ use obd2::call::{Brought, Call};
 use obd2::rest::{Core, Told};
 use obd2::{answers, telling};
 use poller::rest::{KNOWN, ORDER, POLLED};
+use refusal::Refusal;
 use reply::rows::ROW;
 
 // Applies one call, at a time, to the box: the one place that tests the time. Only this function has all of the box's arrays;
@@ -44,7 +45,7 @@ pub fn call(
     ensures promised { Promised (box_of (lent replies.old marks.old table.old slots.old (held polled.old known.old order.old ranges.old) pids.old rates.old) core) (call_of time call brought cmd.now area.old) (answered_of (lent replies.new marks.new table.new slots.new (held polled.new known.new order.new ranges.new) pids.new rates.new) result) }
 {
     if answers::bad_time(core.time, time) {
-        return telling::refuse(core, 1);
+        return telling::refuse(core, Refusal::BadTime);
     }
     match call {
         Call::Register => { desk_calls::register(marks, table, slots, pids, rates, core, time) }

@@ -16,6 +16,7 @@ use obd2::call::Brought;
 pub mod brought;
 
 // What no call has brought yet.
+#[tactic(auto, unfolding(crate::specs::Lines::nothing_brought))]
 pub fn nothing() -> Brought
     ensures { result ≡ nothing_brought }
 {
@@ -27,31 +28,28 @@ pub fn nothing() -> Brought
     }
 }
 
-// A line without a time: `show`, or bad.
-fn untimed(word: &[u8], rest: &[u8]) -> Line
+// A line without a time: `show`, or none that follows the page.
+#[tactic(auto, unfolding(crate::specs::Lines::untimed_of))]
+fn untimed(word: &[u8], rest: &[u8]) -> Option<Line>
     ensures { result ≡ untimed_of word.now (items_of 32 rest.now) }
 {
-    if text::is(word, b"show") {
-        if rest::is_end(rest) {
-            return Line::Show;
-        }
-        return Line::Bad;
+    if text::is(word, b"show") && rest::is_end(rest) {
+        return Some(Line::Show);
     }
-    Line::Bad
+    None
 }
 
-// What a line is. The bytes of a command stand at the start of `bytes` then; a command that has no room there is
-// bad.
-pub fn parse(line: &[u8], bytes: &mut [u8]) -> Line
+// What a line is, none where it does not follow the page. The bytes of a command stand at the start of `bytes` then; a
+// command that has no room there is bad.
+#[tactic(auto, using(text::specs::Cut::place_le, history_items::specs::Items::split_first), unfolding(crate::specs::Lines::line_of, crate::specs::Lines::lent_of))]
+pub fn parse(line: &[u8], bytes: &mut [u8]) -> Option<Line>
     ensures value { result ≡ line_of (length bytes.old) (split_of 32 line.now) }
     ensures bytes_after { bytes.new ≡ lent_of bytes.old (split_of 32 line.now) }
 {
-    let end = text::until(line, b' ');
-    let word = &line[..end];
-    let rest = &line[end..];
+    let (word, rest) = line.split_at(text::until(line, b' '));
     match numeral::read(rest::first(rest), u64::MAX) {
         Some(time) => history_calls::timed(
-            history_words::of(word),
+            history_words::of(word)?,
             time,
             rest::behind(rest),
             bytes,

@@ -1,7 +1,7 @@
 -- The answer lines of the box's calls: history-format.md, "Calls of the box and their answers".
 use Rattle.std.specs.Prelude.{ℕ, List, ◌++◌}
 use Rattle.base.specs.Letters.{letters}
-use Rattle.obd2.specs.declared.Answer.{Answer}
+use Rattle.obd2.specs.Answer.{Answer}
 use Rattle.obd2.specs.declared.Details.{Details}
 use Rattle.reply.specs.declared.Response.{Response}
 use Rattle.history_report.specs.Texts.{report_text}

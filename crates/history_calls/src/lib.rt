@@ -1,5 +1,5 @@
 // What a line says behind its word and its time: history-format.md, "Calls of the box". A line that brings a list is
-// told first; what it brings is read after that, by `bringing`.
+// told first; what it brings is read after that, by `bringing`. A line that does not follow the page is none.
 #![tactic(auto)]
 
 ghost use Rattle.std.specs.Prelude.{◌≡◌, length};
@@ -16,8 +16,6 @@ mod plain;
 
 #[derive(Clone, Copy)]
 pub enum Line {
-    // it does not follow the page
-    Bad,
     Show,
     // the bytes of a command that stand at the start of the lent bytes, and the bytes that the lent area has
     Call {
@@ -47,24 +45,24 @@ pub enum Line {
 }
 
 // What a line says behind its word and its time.
-pub fn timed(word: Word, time: u64, rest: &[u8], bytes: &mut [u8]) -> Line
+#[tactic(auto, unfolding(crate::specs::Timed::timed_line, crate::specs::Timed::timed_bytes))]
+pub fn timed(word: Word, time: u64, rest: &[u8], bytes: &mut [u8]) -> Option<Line>
     ensures value { result ≡ timed_line (length bytes.old) time (items_of 32 rest.now) word }
     ensures bytes_after { bytes.new ≡ timed_bytes bytes.old (items_of 32 rest.now) word }
 {
     match word {
         Word::Bare(call) => plain::alone(time, call, rest),
-        Word::Outcome => Line::Result { time },
-        Word::Response => Line::Response { time },
+        Word::Outcome => Some(Line::Result { time }),
+        Word::Response => Some(Line::Response { time }),
         Word::Ask => plain::ask(time, rest, bytes),
         Word::Collect => plain::collect(time, rest),
         Word::Waiting => plain::waiting(time, rest),
         Word::Consumed => plain::consumed(time, rest),
         Word::Leave => plain::leave(time, rest),
         Word::GiveUp => plain::give_up(time, rest),
-        Word::Profiles => Line::Profiles { time },
+        Word::Profiles => Some(Line::Profiles { time }),
         Word::Settings => plain::set_settings(time, rest),
         Word::Connect => bringing::connect(time, rest),
         Word::Start => bringing::start(time, rest),
-        Word::Other => Line::Bad,
     }
 }

@@ -1,31 +1,31 @@
 // What a connection and a result tell of the dongle and its PIDs, as lists of tokens: eight RANGEs; LEARNT... A list
-// with a bad token is bad, and empty then.
+// with a bad token is none.
 #![tactic(auto)]
 
 ghost use Rattle.std.specs.Prelude.{◌≡◌, ◌<◌};
 ghost use Rattle.history_items.specs.Items.{items_of};
-ghost use Rattle.history_dongle.specs.Lists.{no_learnt, range_onto, learnt_onto, empty_ranges, ranges_of, no_lessons, learnts_of};
+ghost use Rattle.history_dongle.specs.Lists.{no_learnt, range_onto, learnt_onto, ranges_of, learnts_of};
 
-use history_session::LearntToken;
+use history_items::Items;
 use reply::RangeReply;
 use rounds::Learnt;
 
-// The ranges, and how many tokens there are.
+// The ranges, and how many tokens there are. An array with its count, since the box runs in fixed memory.
 #[derive(Clone, Copy)]
-pub struct RangesRead {
-    pub ranges: [RangeReply; 8],
-    pub count: usize,
-    pub good: bool,
+struct RangesRead {
+    ranges: [RangeReply; 8],
+    count: usize,
 }
 
-// What a result teaches, and of how many PIDs it says something.
+// What a result teaches, and of how many PIDs it says something. An array with its count, since the box runs in fixed
+// memory.
 #[derive(Clone, Copy)]
 pub struct LearntRead {
     pub learnt: [Learnt; 6],
     pub count: usize,
-    pub good: bool,
 }
 
+#[tactic(auto, unfolding(crate::specs::Lists::no_learnt))]
 pub fn nothing_learnt() -> [Learnt; 6]
     ensures { result ≡ no_learnt }
 {
@@ -36,6 +36,7 @@ pub fn nothing_learnt() -> [Learnt; 6]
     [none; 6]
 }
 
+#[tactic(auto, unfolding(crate::specs::Lists::range_onto))]
 fn add_range(mut read: RangesRead, r: RangeReply) -> RangesRead
     requires { read.count < 18446744073709551615 }
     ensures { result ≡ range_onto read r }
@@ -49,6 +50,7 @@ fn add_range(mut read: RangesRead, r: RangeReply) -> RangesRead
     read
 }
 
+#[tactic(auto, unfolding(crate::specs::Lists::learnt_onto))]
 fn add_learnt(mut read: LearntRead, l: Learnt) -> LearntRead
     requires { read.count < 18446744073709551615 }
     ensures { result ≡ learnt_onto read l }
@@ -62,64 +64,36 @@ fn add_learnt(mut read: LearntRead, l: Learnt) -> LearntRead
     read
 }
 
-fn empty_ranges(good: bool) -> RangesRead
-    ensures { result ≡ empty_ranges good }
-{
-    let ranges = link::no_ranges();
-    RangesRead {
-        ranges,
-        count: 0,
-        good,
-    }
-}
-
 // Eight of them, neither fewer nor more.
-pub fn ranges(s: &[u8]) -> RangesRead
+#[tactic(auto, using(history_items::specs::Items::items_most), unfolding(crate::specs::Lists::ranges_from, crate::specs::Lists::range_onto))]
+pub fn ranges(s: &[u8]) -> Option<[RangeReply; 8]>
     ensures { result ≡ ranges_of (items_of 32 s.now) }
 {
-    let mut read = empty_ranges(true);
-    let mut at = 0;
-    while at < s.len() {
-        let next = at + 1;
-        let end = history_items::end(s, at, b' ');
-        let token = history_replies::range(&s[next..end]);
-        if !token.good {
-            return empty_ranges(false);
-        }
-        let r = token.range;
+    let mut read = RangesRead {
+        ranges: link::no_ranges(),
+        count: 0,
+    };
+    for token in Items::new(s, b' ') {
+        let r = history_replies::range(token)?;
         read = add_range(read, r);
-        at = end;
     }
     if read.count == 8 {
-        return read;
+        return Some(read.ranges);
     }
-    empty_ranges(false)
+    None
 }
 
-fn no_lessons(good: bool) -> LearntRead
-    ensures { result ≡ no_lessons good }
-{
-    let learnt = nothing_learnt();
-    LearntRead {
-        learnt,
-        count: 0,
-        good,
-    }
-}
-
-pub fn learnt(s: &[u8]) -> LearntRead
+#[tactic(auto, using(history_items::specs::Items::items_most), unfolding(crate::specs::Lists::learnts_from, crate::specs::Lists::learnt_onto))]
+pub fn learnt(s: &[u8]) -> Option<LearntRead>
     ensures { result ≡ learnts_of (items_of 32 s.now) }
 {
-    let mut read = no_lessons(true);
-    let mut at = 0;
-    while at < s.len() {
-        let next = at + 1;
-        let end = history_items::end(s, at, b' ');
-        let LearntToken::Value(l) = history_session::learnt(&s[next..end]) else {
-            return no_lessons(false);
-        };
+    let mut read = LearntRead {
+        learnt: nothing_learnt(),
+        count: 0,
+    };
+    for token in Items::new(s, b' ') {
+        let l = history_session::learnt(token)?;
         read = add_learnt(read, l);
-        at = end;
     }
-    read
+    Some(read)
 }

@@ -1,5 +1,5 @@
 // Profiles and replies that calls bring, as lists of tokens: a text of tokens, each behind a space. More than the box
-// takes are counted all the same, so that it can refuse them. A list with a bad token is bad, and empty then.
+// takes are counted all the same, so that it can refuse them. A list with a bad token is none.
 #![tactic(auto)]
 
 ghost use Rattle.std.specs.Prelude.{◌≡◌};
@@ -7,21 +7,10 @@ ghost use Rattle.history_items.specs.Items.{items_of};
 ghost use Rattle.history_lists.specs.Lists.{no_response, profile_onto, reply_onto, profiles_of, response_of};
 
 use config::{Profile, Profiles};
-use history_wishes::ProfileToken;
+use history_items::Items;
 use reply::{MAX_PIDS, Reply, Response};
 
-#[derive(Clone, Copy)]
-pub struct ProfilesRead {
-    pub profiles: Profiles,
-    pub good: bool,
-}
-
-#[derive(Clone, Copy)]
-pub struct ResponseRead {
-    pub response: Response,
-    pub good: bool,
-}
-
+#[tactic(auto, unfolding(crate::specs::Lists::no_response))]
 pub fn no_response() -> Response
     ensures { result ≡ no_response }
 {
@@ -33,6 +22,7 @@ pub fn no_response() -> Response
     }
 }
 
+#[tactic(auto, unfolding(crate::specs::Lists::profile_onto))]
 fn add_profile(mut profiles: Profiles, p: Profile) -> Profiles
     ensures { result ≡ profile_onto profiles p }
 {
@@ -46,6 +36,7 @@ fn add_profile(mut profiles: Profiles, p: Profile) -> Profiles
     profiles
 }
 
+#[tactic(auto, unfolding(crate::specs::Lists::reply_onto))]
 fn add_reply(mut response: Response, pid: u8, r: Reply) -> Response
     ensures { result ≡ reply_onto response pid r }
 {
@@ -60,50 +51,27 @@ fn add_reply(mut response: Response, pid: u8, r: Reply) -> Response
     response
 }
 
-pub fn profiles(s: &[u8]) -> ProfilesRead
+#[tactic(auto, unfolding(crate::specs::Lists::profiles_from))]
+pub fn profiles(s: &[u8]) -> Option<Profiles>
     ensures { result ≡ profiles_of (items_of 32 s.now) }
 {
     let mut profiles = config::no_profiles();
-    let mut at = 0;
-    while at < s.len() {
-        let next = at + 1;
-        let end = history_items::end(s, at, b' ');
-        let ProfileToken::Value(p) = history_wishes::profile(&s[next..end]) else {
-            return ProfilesRead {
-                profiles: config::no_profiles(),
-                good: false,
-            };
-        };
+    for token in Items::new(s, b' ') {
+        let p = history_wishes::profile(token)?;
         profiles = add_profile(profiles, p);
-        at = end;
     }
-    ProfilesRead {
-        profiles,
-        good: true,
-    }
+    Some(profiles)
 }
 
-pub fn response(s: &[u8]) -> ResponseRead
+#[tactic(auto, unfolding(crate::specs::Lists::response_from))]
+pub fn response(s: &[u8]) -> Option<Response>
     ensures { result ≡ response_of (items_of 32 s.now) }
 {
     let mut response = no_response();
-    let mut at = 0;
-    while at < s.len() {
-        let next = at + 1;
-        let end = history_items::end(s, at, b' ');
-        let token = history_replies::reply(&s[next..end]);
-        if !token.good {
-            return ResponseRead {
-                response: no_response(),
-                good: false,
-            };
-        }
-        let r = token.reply;
-        response = add_reply(response, token.pid, r);
-        at = end;
+    for token in Items::new(s, b' ') {
+        let read = history_replies::reply(token)?;
+        let r = read.reply;
+        response = add_reply(response, read.pid, r);
     }
-    ResponseRead {
-        response,
-        good: true,
-    }
+    Some(response)
 }

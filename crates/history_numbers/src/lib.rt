@@ -7,110 +7,68 @@ ghost use Rattle.history_numbers.specs.Numbers.{is_none, byte_of, word32_of, fla
 
 use pid_table::WaitDuration;
 
-#[derive(Clone, Copy)]
-pub enum Word32 {
-    Value(u32),
-    Bad,
-}
-
-// 0 or 1, as a test.
-#[derive(Clone, Copy)]
-pub enum FlagToken {
-    Value(bool),
-    Bad,
-}
-
-// A profile's THRESHOLD: whether there is one, and the threshold, 0 where there is none.
-#[derive(Clone, Copy)]
-pub enum ThresholdToken {
-    Value { limited: bool, threshold: u32 },
-    Bad,
-}
-
-#[derive(Clone, Copy)]
-pub enum WaitToken {
-    Value(WaitDuration),
-    Bad,
-}
-
 // Whether a token is `-`, which stands for none.
+#[tactic(auto, unfolding(crate::specs::Numbers::is_none))]
 fn is_none(s: &[u8]) -> bool
     ensures { result ≡ is_none s.now }
 {
     text::is(s, b"-")
 }
 
+#[tactic(auto, using(numeral::specs::Laws::value_most), unfolding(crate::specs::Numbers::byte_of))]
 pub fn byte(s: &[u8]) -> Option<u8>
     ensures { result ≡ byte_of s.now }
 {
-    match numeral::read(s, 255) {
-        Some(n) => Some(n as u8),
-        None => None,
-    }
+    Some(numeral::read(s, 255)? as u8)
 }
 
-pub fn number32(s: &[u8]) -> Word32
+#[tactic(auto, using(numeral::specs::Laws::value_most), unfolding(crate::specs::Numbers::word32_of))]
+pub fn number32(s: &[u8]) -> Option<u32>
     ensures { result ≡ word32_of s.now }
 {
-    match numeral::read(s, 4294967295) {
-        Some(n) => Word32::Value(n as u32),
-        None => Word32::Bad,
-    }
+    Some(numeral::read(s, 4294967295)? as u32)
 }
 
-pub fn flag(s: &[u8]) -> FlagToken
+// 0 or 1, as a test.
+#[tactic(auto, unfolding(crate::specs::Numbers::flag_of))]
+pub fn flag(s: &[u8]) -> Option<bool>
     ensures { result ≡ flag_of s.now }
 {
-    match numeral::read(s, 1) {
-        Some(n) => FlagToken::Value(n == 1),
-        None => FlagToken::Bad,
-    }
+    Some(numeral::read(s, 1)? == 1)
 }
 
-pub fn threshold(s: &[u8]) -> ThresholdToken
+// A profile's THRESHOLD, if it has one.
+#[tactic(auto, unfolding(crate::specs::Numbers::threshold_of))]
+pub fn threshold(s: &[u8]) -> Option<Option<u32>>
     ensures { result ≡ threshold_of s.now }
 {
     if is_none(s) {
-        return ThresholdToken::Value {
-            limited: false,
-            threshold: 0,
-        };
+        return Some(None);
     }
-    match number32(s) {
-        Word32::Value(n) => ThresholdToken::Value {
-            limited: true,
-            threshold: n,
-        },
-        Word32::Bad => ThresholdToken::Bad,
-    }
+    Some(Some(number32(s)?))
 }
 
-pub fn wait(s: &[u8]) -> WaitToken
+#[tactic(auto, unfolding(crate::specs::Numbers::wait_of))]
+pub fn wait(s: &[u8]) -> Option<WaitDuration>
     ensures { result ≡ wait_of s.now }
 {
     if is_none(s) {
-        return WaitToken::Value(WaitDuration::Hit);
+        return Some(WaitDuration::Hit);
     }
-    match numeral::read(s, u64::MAX) {
-        Some(n) => WaitToken::Value(WaitDuration::Miss(n)),
-        None => WaitToken::Bad,
-    }
+    Some(WaitDuration::Miss(numeral::read(s, u64::MAX)?))
 }
 
 // A count of control units, of which there is at least one; 0 stands for none.
+#[tactic(auto, unfolding(crate::specs::Numbers::ecu_of))]
 pub fn ecu(s: &[u8]) -> Option<u8>
     ensures { result ≡ ecu_of s.now }
 {
     if is_none(s) {
         return Some(0);
     }
-    match byte(s) {
-        Some(n) => {
-            if n == 0 {
-                return None;
-            }
-            Some(n)
-        }
-        None => None,
+    let n = byte(s)?;
+    if n == 0 {
+        return None;
     }
+    Some(n)
 }

@@ -1,8 +1,11 @@
 -- The lines of a REPLY and of a RANGE: "a LINE being hex pairs, possibly none". "More .. lines or bytes than the
 -- box takes are passed on to it": a count stops at 255, and bytes that a reply has no room for are left out.
 -- 44 is `,`, 58 is `:`.
-use Rattle.std.specs.Prelude.{Bool, false, ◌&&◌, List, [], ◌∷◌, ◌++◌, ◌≡◌, ℕ, zero, suc, ◌+◌, ◌-◌, ◌*◌, ◌/◌, ◌%◌, ◌<◌, ◌≤◌, min, eqb, ltb, length, get_or, drop, set, Option, Some, None, Result}
+use Rattle.std.specs.Prelude.{Bool, false, ◌&&◌, List, [], ◌∷◌, ◌++◌, ◌≡◌, ℕ, zero, suc, ◌+◌, ◌-◌, ◌*◌, ◌/◌, ◌%◌, ◌<◌, ◌≤◌, min, eqb, ltb, length, get_or, drop, set}
 use Rattle.std.proofs.Math.Bool.{true}
+use Rattle.std.specs.Prelude.{Option, Some, None, Result}
+use Rattle.std.specs.Option.{option_map}
+use Rattle.std.proofs.lemmas.Option.{same_Some, none-some}
 use Rattle.std.proofs.Math.Path.{refl}
 use Rattle.std.proofs.Common.{sym, length-take, length-drop, take-append-drop}
 use native.Mathlib.Omega.{arith}
@@ -17,16 +20,15 @@ use Rattle.base.specs.Write.{over, over_lent}
 use Rattle.text.specs.Cut.{same_of}
 use Rattle.hex_text.specs.Pairs.{is_hex, hexes, is_pairs, pairs, bytes_of, read_of, pid_of}
 use Rattle.hex_text.specs.Laws.{pairs_length}
+use Rattle.hex_text.specs.declared.Unread.{Unread}
 use Rattle.reply.specs.Rules.{empty_reply}
 use Rattle.reply.specs.declared.Reply.{Reply}
-use Rattle.history_items.specs.Items.{items_of, more_of, end_of, items_next, items_none}
-use Rattle.history_replies.specs.declared.ReplyToken.{ReplyToken}
-use Rattle.history_replies.specs.declared.PidToken.{PidToken}
-use Rattle.history_replies.specs.declared.RangeToken.{RangeToken}
+use Rattle.history_items.specs.Items.{given, items_of, more_of}
+use Rattle.reply.specs.declared.RangeReply.{RangeReply}
+use Rattle.history_replies.specs.declared.PidReply.{PidReply}
 use Rattle.history_replies.specs.declared.Placed.{Placed}
 use Rattle.history_replies.specs.declared.Filled.{Filled}
 use Rattle.history_replies.specs.declared.Added.{Added}
-use Rattle.hex_text.specs.declared.Unread.{Unread}
 
 -- Pairs put at a place, if they have room there.
 unfoldable pub put_at : List ℕ → ℕ → List ℕ → List ℕ
@@ -42,11 +44,8 @@ behind_of d at s = over d at (take (64 - at) (pairs s))
 abbrev pub fill_of : ℕ → List ℕ → ℕ
 fill_of at s = min (at + length s / 2) 64
 
-unfoldable pub filled_of : List ℕ → ℕ → List ℕ → Filled
-filled_of d at s =
-    pick (is_pairs s)
-    (record { bytes = behind_of d at s; fill = fill_of at s; good = true })
-    (record { bytes = d; fill = at; good = false })
+unfoldable pub filled_of : List ℕ → ℕ → List ℕ → Option Filled
+filled_of d at s = pick (is_pairs s) (Some (record { bytes = behind_of d at s; fill = fill_of at s })) None
 
 unfoldable pub short_of : ℕ → ℕ
 short_of n = min n 255
@@ -62,56 +61,35 @@ count_line r n = record {
 abbrev with_bytes : Reply → List ℕ → Reply
 with_bytes r d = record { lines = r.lines; lengths = r.lengths; bytes = d }
 
--- A reply and a line more.
-unfoldable pub line_onto : Reply → ℕ → List ℕ → Reply
-line_onto r at s = count_line (with_bytes r (behind_of r.bytes at s)) (length s / 2)
-
-abbrev pub added_of : Reply → ℕ → List ℕ → Added
-added_of r at s = record {
-  reply = count_line (with_bytes r (filled_of r.bytes at s).bytes) (length s / 2);
-  fill = (filled_of r.bytes at s).fill;
-  good = (filled_of r.bytes at s).good;
-}
-
-abbrev pub no_lines : ReplyToken
-no_lines = record { reply = empty_reply; good = false }
+-- A reply and a line more, none of a bad line.
+abbrev pub added_of : Reply → ℕ → List ℕ → Option Added
+added_of r at s = option_map (λ f. record { reply = count_line (with_bytes r f.bytes) (length s / 2); fill = f.fill }) (filled_of r.bytes at s)
 
 -- The lines behind those that a reply has; `at` of its bytes are taken.
-unfoldable pub lines_from : Reply → ℕ → List (List ℕ) → ReplyToken
-lines_from r at [] = record { reply = r; good = true }
-lines_from r at (l ∷ ls) = pick (is_pairs l) (lines_from (line_onto r at l) (fill_of at l) ls) no_lines
-
-unfoldable pub lines_of : List ℕ → ReplyToken
-lines_of s = lines_from empty_reply 0 (items_of 44 s)
+unfoldable pub lines_from : Reply → ℕ → List (List ℕ) → Option Reply
+lines_from r at [] = Some r
+lines_from r at (l ∷ ls) = given (added_of r at l) (λ a. lines_from a.reply a.fill ls)
 
 -- "`PID` for a reply without lines, else `PID:LINE,LINE..`"
 unfoldable pub is_lines : List ℕ → Bool
 is_lines [] = true
 is_lines (b ∷ s) = eqb b 58
 
-abbrev pub no_pid : PidToken
-no_pid = record { reply = empty_reply; pid = 0; good = false }
+unfoldable pub lines_of : List ℕ → Option Reply
+lines_of s = pick (is_lines s) (lines_from empty_reply 0 (items_of 44 s)) None
 
-unfoldable pub as_reply : Option ℕ → Bool → ReplyToken → PidToken
-as_reply (Some p) true t = record { reply = t.reply; pid = p; good = t.good }
-as_reply None l t = no_pid
-as_reply (Some p) false t = no_pid
-
-unfoldable pub reply_of : List ℕ → PidToken
-reply_of s = pick (ltb (length s) 2) no_pid (as_reply (pid_of (take 2 s)) (is_lines (drop 2 s)) (lines_of (drop 2 s)))
+unfoldable pub reply_of : List ℕ → Option PidReply
+reply_of s = pick (ltb (length s) 2) None (given (pid_of (take 2 s)) (λ p. option_map (λ r. record { reply = r; pid = p }) (lines_of (drop 2 s))))
 
 -- "`-` absent, `.` without lines, else `:LINE,LINE..`"
-abbrev pub empty_range : Bool → Bool → RangeToken
-empty_range present good = record { range = record { present = present; reply = empty_reply }; good = good }
+abbrev pub with_lines : Bool → Reply → RangeReply
+with_lines present r = record { present = present; reply = r }
 
-unfoldable pub range_of : List ℕ → RangeToken
+unfoldable pub range_of : List ℕ → Option RangeReply
 range_of s =
-    pick (same_of s (letters "-")) (empty_range false true)
-    (pick (same_of s (letters ".")) (empty_range true true)
-    (pick (eqb (length s) 0) (empty_range false false)
-    (pick (is_lines s)
-    (record { range = record { present = (lines_of s).good; reply = (lines_of s).reply }; good = (lines_of s).good })
-    (empty_range false false))))
+    pick (same_of s (letters "-")) (Some (with_lines false empty_reply))
+    (pick (same_of s (letters ".")) (Some (with_lines true empty_reply))
+    (pick (eqb (length s) 0) None (option_map (with_lines true) (lines_of s))))
 
 -- Pairs put through the part that is lent.
 module _ (d : List ℕ) (at : ℕ) (s p : List ℕ) (h : at ≤ 64) (n : length d ≡ 64) where
@@ -161,19 +139,19 @@ is_pairs_take k s h e =
     (hexes_take (2 * k) s (both_right (eqb (length s % 2) 0) (hexes s) e))
 
 module _ (d : List ℕ) (at : ℕ) (s : List ℕ) (h : at ≤ 64) where
-  pub filled_bad : is_pairs s ≡ false → record { bytes = put_at d at s; fill = at; good = false } ≡ filled_of d at s
-  unfolding filled_of put_at
+  pub filled_bad : is_pairs s ≡ false → None ≡ filled_of d at s
+  unfolding filled_of
   filled_bad e = rw e
 
   module _ (e : is_pairs s ≡ true) where
-    pub filled_count : (n : ℕ) → n ≡ length s / 2 → n ≤ 64 - at → record { bytes = put_at d at s; fill = at + n; good = true } ≡ filled_of d at s
+    pub filled_count : (n : ℕ) → n ≡ length s / 2 → n ≤ 64 - at → Some (record { bytes = put_at d at s; fill = at + n }) ≡ filled_of d at s
     unfolding filled_of put_at
     filled_count n k l =
         let p = pairs_length s in
         let f : at + n ≡ fill_of at s = omega arith in
         rw (e, le-leb (length s / 2) (64 - at) (omega arith), take_all (64 - at) (pairs s) (omega arith), f)
 
-    pub filled_short : 64 - at < length s / 2 → record { bytes = put_at d at (take (2 * (64 - at)) s); fill = 64; good = true } ≡ filled_of d at s
+    pub filled_short : 64 - at < length s / 2 → Some (record { bytes = put_at d at (take (2 * (64 - at)) s); fill = 64 }) ≡ filled_of d at s
     unfolding filled_of put_at
     filled_short l =
         let n = length-take-le (2 * (64 - at)) s (omega arith) in
@@ -181,24 +159,18 @@ module _ (d : List ℕ) (at : ℕ) (s : List ℕ) (h : at ≤ 64) where
         let g : leb (length (take (2 * (64 - at)) s) / 2) (64 - at) ≡ true = le-leb (length (take (2 * (64 - at)) s) / 2) (64 - at) (omega arith) in
         rw (e, is_pairs_take (64 - at) s (omega arith) e, g, pairs_take (64 - at) s, ← f)
 
--- What a line leaves of the room.
-pub filled_most : (d : List ℕ) (at : ℕ) (s : List ℕ) → at ≤ 64 → (filled_of d at s).fill ≤ 64
-unfolding filled_of
-filled_most d at s h = cases _ (is_pairs s) (λ e. rw e (omega arith)) (λ e. rw e h)
+-- A line more: what it leaves of the room, and the lines behind it.
+module _ (r : Reply) (at : ℕ) (l : List ℕ) (a : Added) (e : added_of r at l ≡ Some a) where
+  pub added_most : at ≤ 64 → a.fill ≤ 64
+  unfolding filled_of
+  added_most h =
+      cases _ (is_pairs l)
+      (λ p. let g = same_Some _ _ (rw p at e) in rw (← g) (omega arith))
+      (λ p. absurd (none-some _ (rw p at e)))
 
--- A line more, or a bad one.
-module _ (r : Reply) (at : ℕ) (l : List ℕ) (ls : List (List ℕ)) where
-  pub lines_bad : (filled_of r.bytes at l).good ≡ false → lines_from r at (l ∷ ls) ≡ no_lines
-  unfolding lines_from filled_of
-  lines_bad e = cases _ (is_pairs l) (λ f. false_true (sym (rw f at e))) (λ f. rw f)
-
-  pub lines_next : (filled_of r.bytes at l).good ≡ true → lines_from r at (l ∷ ls) ≡ lines_from (added_of r at l).reply (added_of r at l).fill ls
-  unfolding lines_from filled_of line_onto
-  lines_next e = cases _ (is_pairs l) (λ f. rw f) (λ f. false_true (rw f at e))
-
-pub lines_none : (r : Reply) (at : ℕ) → lines_from r at [] ≡ record { reply = r; good = true }
-unfolding lines_from
-lines_none r at = refl
+  pub lines_next : (ls : List (List ℕ)) → lines_from r at (l ∷ ls) ≡ lines_from a.reply a.fill ls
+  unfolding lines_from
+  lines_next ls = rw e
 
 -- The cases of a line's place among the lengths, of what a token's first bytes say, and of a range.
 module _ (r : Reply) (n : ℕ) where
@@ -210,76 +182,3 @@ module _ (r : Reply) (n : ℕ) where
   unfolding count_line
   line_past h = rw (le-ltb r.lines 8 h)
 
-pub is_lines_none : (s : List ℕ) → length s ≡ 0 → true ≡ is_lines s
-unfolding is_lines
-is_lines_none [] h = refl
-is_lines_none (b ∷ s) h = absurd (omega arith)
-
-pub is_lines_some : (s : List ℕ) → (length s ≡ 0 → ⊥) → eqb (get_or s 0 0) 58 ≡ is_lines s
-unfolding is_lines
-is_lines_some [] h = absurd (h refl)
-is_lines_some (b ∷ s) h = refl
-
-reply_2 : (p : Option ℕ) (t : ReplyToken) → as_reply p false t ≡ no_pid
-unfolding as_reply
-reply_2 (Some p) t = refl
-reply_2 None t = refl
-
-module _ (s : List ℕ) where
-  pub reply_short : length s < 2 → no_pid ≡ reply_of s
-  unfolding reply_of
-  reply_short h = rw (lt-ltb (length s) 2 h)
-
-  module _ (h : 2 ≤ length s) where
-    pub reply_bad_1 : pid_of (take 2 s) ≡ None → no_pid ≡ reply_of s
-    unfolding reply_of as_reply
-    reply_bad_1 e = rw (le-ltb (length s) 2 h, e)
-
-    pub reply_bad_2 : is_lines (drop 2 s) ≡ false → no_pid ≡ reply_of s
-    unfolding reply_of
-    reply_bad_2 e = rw (le-ltb (length s) 2 h, e) (sym (reply_2 _ _))
-
-    pub reply_good : (p : ℕ) (t : ReplyToken) → pid_of (take 2 s) ≡ Some p → is_lines (drop 2 s) ≡ true → t ≡ lines_of (drop 2 s)
-        → record { reply = t.reply; pid = p; good = t.good } ≡ reply_of s
-    unfolding reply_of as_reply
-    reply_good p t a b e = rw (le-ltb (length s) 2 h, a, b, e)
-
-  pub range_absent : same_of s (letters "-") ≡ true → empty_range false true ≡ range_of s
-  unfolding range_of
-  range_absent e = rw e
-
-  module _ (a : same_of s (letters "-") ≡ false) where
-    pub range_empty : same_of s (letters ".") ≡ true → empty_range true true ≡ range_of s
-    unfolding range_of
-    range_empty e = rw (a, e)
-
-    module _ (b : same_of s (letters ".") ≡ false) where
-      pub range_none : length s ≡ 0 → empty_range false false ≡ range_of s
-      unfolding range_of
-      range_none e = rw (a, b, eq-eqb (length s) 0 e)
-
-      module _ (c : length s ≡ 0 → ⊥) where
-        pub range_bad : is_lines s ≡ false → empty_range false false ≡ range_of s
-        unfolding range_of
-        range_bad e = rw (a, b, ne_eqb (length s) 0 c, e)
-
-        pub range_lines : is_lines s ≡ true → (t : ReplyToken) → t ≡ lines_of s
-            → record { range = record { present = t.good; reply = t.reply }; good = t.good } ≡ range_of s
-        unfolding range_of
-        range_lines e t f = rw (a, b, ne_eqb (length s) 0 c, e, f)
-
--- The lines from the place at on: the next, a bad one, none.
-module _ (s : List ℕ) (r : Reply) (fill at : ℕ) where
-  pub lines_start : lines_of s ≡ lines_from empty_reply 0 (items_of 44 (drop 0 s))
-  unfolding lines_of
-  lines_start = refl
-
-  pub lines_end : length s ≤ at → lines_from r fill (items_of 44 (drop at s)) ≡ record { reply = r; good = true }
-  lines_end h = rw (items_none 44 s at h) (lines_none r fill)
-
-  module _ (end : ℕ) (e : end ≡ end_of 44 s at) (h : at < length s) (a : Added) (f : a ≡ added_of r fill (take (end - (at + 1)) (drop (at + 1) s))) where
-    pub lines_turn : a.good ≡ true → lines_from r fill (items_of 44 (drop at s)) ≡ lines_from a.reply a.fill (items_of 44 (drop end s))
-    lines_turn g = rw (items_next 44 s at end e h, f) (lines_next r fill _ _ (rw f at g))
-
-    pub lines_stop : a.good ≡ false → lines_from r fill (items_of 44 (drop at s)) ≡ no_lines
-    lines_stop g = rw (items_next 44 s at end e h) (lines_bad r fill _ _ (rw f at g))

@@ -1,5 +1,5 @@
 -- How long the answer of a call is at most.
-use Rattle.std.specs.Prelude.{ℕ, zero, suc, ◌*◌, ◌≤◌, min, Bool, true, false, List, length, take, ◌==◌, slice_index, slice_index_or}
+use Rattle.std.specs.Prelude.{None, Option, Some, ℕ, zero, suc, ◌*◌, ◌≤◌, min, Bool, true, false, List, length, take, ◌==◌, slice_index, slice_index_or}
 use native.Mathlib.Omega.{arith}
 use Rattle.std.proofs.Math.ListN.{length-append, length-take}
 use Rattle.base.specs.Choice.{cases}
@@ -7,12 +7,10 @@ use Rattle.cache.specs.declared.Answer.{Answer as Asked}
 use Rattle.cache.specs.declared.Answer.TheVariants as asked
 use Rattle.control.specs.declared.DongleMessage.{DongleMessage}
 use Rattle.control.specs.declared.DongleMessage.TheVariants.{SetPidPriority, RemovePid}
-use Rattle.control_line.specs.declared.Taken.{Taken}
-use Rattle.control_line.specs.declared.Taken.TheVariants.{Message, Nothing}
 use Rattle.link.specs.declared.Connecting.{Connecting}
 use Rattle.link.specs.declared.Connecting.TheVariants.{Connected, Failed, Already}
-use Rattle.obd2.specs.declared.Answer.{Answer}
-use Rattle.obd2.specs.declared.Answer.TheVariants.{Refused, Accepted}
+use Rattle.obd2.specs.Answer.{Answer}
+use Rattle.obd2.specs.Answer.{Refused, Accepted}
 use Rattle.obd2.specs.declared.Details.{Details}
 use Rattle.obd2.specs.declared.Said.{Said}
 use Rattle.obd2.specs.declared.Said.TheVariants as said
@@ -98,10 +96,10 @@ unfolding done_text
 done_short d v =
     simp length-append (omega (arith, values_short (min v.count 6) 0 v.pids d.values d.notices))
 
-taken_short : (m : Taken) → length (taken_text m) ≤ 9
+taken_short : (m : Option DongleMessage) → length (taken_text m) ≤ 9
 unfolding taken_text
-taken_short (Message m) = control_short m
-taken_short Nothing = omega arith
+taken_short (Some m) = control_short m
+taken_short None = omega arith
 
 connecting_short : (c : Connecting) → length (connecting_text c) ≤ 9
 unfolding connecting_text

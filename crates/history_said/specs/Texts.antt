@@ -1,5 +1,5 @@
 -- What the box's calls answer: history-format.md, "Calls of the box and their answers".
-use Rattle.std.specs.Prelude.{ℕ, zero, suc, min, Bool, true, false, List, [], ◌∷◌, ◌++◌, take, ◌==◌, slice_index, slice_index_or}
+use Rattle.std.specs.Prelude.{None, Option, Some, ℕ, zero, suc, min, Bool, true, false, List, [], ◌∷◌, ◌++◌, take, ◌==◌, slice_index, slice_index_or}
 use Rattle.base.specs.Choice.{pick}
 use Rattle.base.specs.Letters.{letter, letters}
 use Rattle.cache.specs.declared.Answer.{Answer as Asked}
@@ -8,13 +8,11 @@ use Rattle.config.specs.declared.PidPriority.{PidPriority}
 use Rattle.config.specs.declared.PidPriority.TheVariants.{Fast, Slow}
 use Rattle.control.specs.declared.DongleMessage.{DongleMessage}
 use Rattle.control.specs.declared.DongleMessage.TheVariants.{SetPidPriority, RemovePid}
-use Rattle.control_line.specs.declared.Taken.{Taken}
-use Rattle.control_line.specs.declared.Taken.TheVariants.{Message, Nothing}
 use Rattle.link.specs.declared.Connecting.{Connecting}
 use Rattle.link.specs.declared.Connecting.TheVariants.{Connected, Failed, Already}
 use Rattle.numeral.specs.Decimal.{decimal_text}
-use Rattle.obd2.specs.declared.Answer.{Answer}
-use Rattle.obd2.specs.declared.Answer.TheVariants.{Refused, Accepted}
+use Rattle.obd2.specs.Answer.{Answer}
+use Rattle.obd2.specs.Answer.{Refused, Accepted}
 use Rattle.obd2.specs.declared.Details.{Details}
 use Rattle.obd2.specs.declared.Said.{Said}
 use Rattle.obd2.specs.declared.Said.TheVariants as said
@@ -89,9 +87,9 @@ asked_text (asked.Reading p) lines lengths area = reading_text p lines lengths a
 asked_text (asked.Waiting p) lines lengths area = letters "waiting " ++ pid_text p
 
 -- What the poller takes off the control line.
-unfoldable pub taken_text : Taken → List ℕ
-taken_text (Message m) = control_text m
-taken_text Nothing = letters "none"
+unfoldable pub taken_text : Option DongleMessage → List ℕ
+taken_text (Some m) = control_text m
+taken_text None = letters "none"
 
 -- How connecting went.
 unfoldable pub connecting_text : Connecting → List ℕ

@@ -2,43 +2,11 @@
 #![tactic(auto)]
 
 ghost use Rattle.std.specs.Prelude.{◌≡◌, ◌<◌};
-ghost use Rattle.history_session.specs.Session.{state_of, kind_of, learnt_of, none_known, has_length, table_of, bit_of, bit_in, no_known, known_of};
+ghost use Rattle.history_session.specs.Session.{state_of, kind_of, learnt_of, has_length, table_of, bit_of, bit_in, known_of};
 
-use history_numbers::FlagToken;
 use link::FeatureSupport;
 use rounds::{Kind, Learnt};
-
-// The PIDs whose lengths are known, none where the token is bad.
-#[derive(Clone, Copy)]
-pub struct KnownToken {
-    pub known: [bool; 256],
-    pub good: bool,
-}
-
-#[derive(Clone, Copy)]
-pub enum StateToken {
-    Value(FeatureSupport),
-    Bad,
-}
-
-#[derive(Clone, Copy)]
-pub enum KindToken {
-    Value(Kind),
-    Bad,
-}
-
-#[derive(Clone, Copy)]
-pub enum LearntToken {
-    Value(Learnt),
-    Bad,
-}
-
-// No PID's length is known.
-fn none_known() -> [bool; 256]
-    ensures { result ≡ none_known }
-{
-    [false; 256]
-}
+use std::array;
 
 // Whether the PID is one of pid.rs's table.
 #[tactic(auto, unfolding(crate::specs::Session::has_length))]
@@ -52,118 +20,80 @@ fn has_length(p: u8) -> bool
 fn of_table() -> [bool; 256]
     ensures { result ≡ table_of has_length 256 }
 {
-    let mut known = none_known();
-    let mut p = 0;
-    while p < 256 {
-        known[p] = has_length(p as u8);
-        p += 1;
-    }
-    known
+    array::from_fn(|p| has_length(p as u8))
 }
 
 // Bit k of a byte, bit 0 the lowest.
+#[tactic(auto, unfolding(crate::specs::Session::bit_of))]
 fn bit(b: u8, k: usize) -> bool
     requires { k < 8 }
     ensures { result ≡ bit_of b k }
 {
-    match k {
-        0 => b % 2 == 1,
-        1 => b / 2 % 2 == 1,
-        2 => b / 4 % 2 == 1,
-        3 => b / 8 % 2 == 1,
-        4 => b / 16 % 2 == 1,
-        5 => b / 32 % 2 == 1,
-        6 => b / 64 % 2 == 1,
-        _ => b / 128 % 2 == 1,
-    }
+    (b >> k) % 2 == 1
 }
 
 // The PIDs whose bits are set.
+#[tactic(auto, unfolding(crate::specs::Session::bit_in))]
 fn of_bits(bits: [u8; 32]) -> [bool; 256]
     ensures { result ≡ table_of (bit_in bits) 256 }
 {
-    let mut known = none_known();
-    let mut p = 0;
-    while p < 256 {
+    let mut known = [false; 256];
+    for p in 0..256 {
         known[p] = bit(bits[p / 8], p % 8);
-        p += 1;
     }
     known
 }
 
-fn bad_known() -> KnownToken
-    ensures { result ≡ no_known }
-{
-    let known = none_known();
-    KnownToken { known, good: false }
-}
-
-pub fn known(s: &[u8]) -> KnownToken
+// The PIDs whose lengths are known.
+pub fn known(s: &[u8]) -> Option<[bool; 256]>
     ensures { result ≡ known_of s.now }
 {
     if text::is(s, b"*") {
-        let known = of_table();
-        return KnownToken { known, good: true };
+        return Some(of_table());
     }
     let mut bits = [0u8; 32];
     match hex_text::read(s, &mut bits) {
         Ok(n) => {
             if n != 32 {
-                return bad_known();
+                return None;
             }
-            let known = of_bits(bits);
-            KnownToken { known, good: true }
+            Some(of_bits(bits))
         }
-        Err(_) => bad_known(),
+        Err(_) => None,
     }
 }
 
-pub fn state(s: &[u8]) -> StateToken
+#[tactic(auto, unfolding(crate::specs::Session::state_of))]
+pub fn state(s: &[u8]) -> Option<FeatureSupport>
     ensures { result ≡ state_of s.now }
 {
-    match numeral::read(s, 2) {
-        Some(n) => {
-            if n == 0 {
-                return StateToken::Value(FeatureSupport::Unknown);
-            }
-            if n == 1 {
-                return StateToken::Value(FeatureSupport::Yes);
-            }
-            StateToken::Value(FeatureSupport::No)
-        }
-        None => StateToken::Bad,
+    match numeral::read(s, 2)? {
+        0 => Some(FeatureSupport::Unknown),
+        1 => Some(FeatureSupport::Yes),
+        _ => Some(FeatureSupport::No),
     }
 }
 
 // A result's KIND.
-pub fn kind(s: &[u8]) -> KindToken
+#[tactic(auto, unfolding(crate::specs::Session::kind_of))]
+pub fn kind(s: &[u8]) -> Option<Kind>
     ensures { result ≡ kind_of s.now }
 {
-    match numeral::read(s, 2) {
-        Some(n) => {
-            if n == 0 {
-                return KindToken::Value(Kind::Replied);
-            }
-            if n == 1 {
-                return KindToken::Value(Kind::TimedOut);
-            }
-            KindToken::Value(Kind::Lost)
-        }
-        None => KindToken::Bad,
+    match numeral::read(s, 2)? {
+        0 => Some(Kind::Replied),
+        1 => Some(Kind::TimedOut),
+        _ => Some(Kind::Lost),
     }
 }
 
-pub fn learnt(s: &[u8]) -> LearntToken
+#[tactic(auto, unfolding(crate::specs::Session::learnt_of))]
+pub fn learnt(s: &[u8]) -> Option<Learnt>
     ensures { result ≡ learnt_of s.now }
 {
     if text::count(s, b',') != 1 {
-        return LearntToken::Bad;
+        return None;
     }
-    let Some(ecu) = history_numbers::ecu(text::head(s, b',')) else {
-        return LearntToken::Bad;
-    };
-    let FlagToken::Value(known) = history_numbers::flag(text::tail(s, b',')) else {
-        return LearntToken::Bad;
-    };
-    LearntToken::Value(Learnt { ecu, known })
+    let ecu = history_numbers::ecu(text::head(s, b','))?;
+    let known = history_numbers::flag(text::tail(s, b','))?;
+    Some(Learnt { ecu, known })
 }

@@ -5,7 +5,7 @@ use Rattle.std.specs.Prelude.{refl}
 use native.Mathlib.Omega.{arith}
 use Rattle.std.proofs.Math.Numerals.{add-one}
 use Rattle.base.specs.Choice.{cases}
-use Rattle.control.specs.declared.outbox.Slot.{Slot}
+use Rattle.control.specs.declared.DongleMessage.{DongleMessage}
 use Rattle.control_line.specs.Ring.{from, unused}
 use Rattle.control_line.specs.Rows.{message_in, slots_of, read_at}
 use Rattle.pid_table.specs.Entry.{nobody}
@@ -64,10 +64,10 @@ module _ (rows : List (List ℕ)) (more : Bool) (i : ℕ) where
   rows_end h = let n = table_length rows in table_end (table_of rows) more i nobody (omega arith)
 
 -- The control line from the front.
-module _ (slots : List Slot) (head n : ℕ) (more : Bool) (i : ℕ) where
+module _ (slots : List DongleMessage) (head n : ℕ) (more : Bool) (i : ℕ) where
   line_next : i < n
       → parted more (map message_text (from slots (head + i) (n - i)))
-      ≡ comma_text more ++ (message_text (get_or slots ((head + i) % 1024) unused).message ++ parted true (map message_text (from slots (head + (i + 1)) (n - (i + 1)))))
+      ≡ comma_text more ++ (message_text (get_or slots ((head + i) % 1024) unused) ++ parted true (map message_text (from slots (head + (i + 1)) (n - (i + 1)))))
   unfolding from parted
   line_next h =
       let z : n - i ≡ suc (n - (i + 1)) = omega arith in
@@ -87,7 +87,7 @@ module _ (rows : List (List ℕ)) (head n : ℕ) (more : Bool) (i : ℕ) where
       → parted more (map message_text (from (slots_of rows) (head + i) (n - i)))
       ≡ comma_text more ++ (message_text (message_in (slice_index row 0) (slice_index row 1)) ++ parted true (map message_text (from (slots_of rows) (head + (i + 1)) (n - (i + 1)))))
   slots_next h =
-      rw (sym (ap (λ (s : Slot). s.message) (read_at rows ((head + i) % 1024)))) (line_next (slots_of rows) head n more i h)
+      rw (sym (read_at rows ((head + i) % 1024))) (line_next (slots_of rows) head n more i h)
 
   pub slots_end : n ≤ i → parted more (map message_text (from (slots_of rows) (head + i) (n - i))) ≡ none_text more
   slots_end h = line_end (slots_of rows) head n more i h

@@ -1,15 +1,13 @@
 -- 8,192 bytes have room for the line of `show`.
-use Rattle.std.specs.Prelude.{◌≡◌, ℕ, zero, suc, ◌+◌, ◌*◌, ◌≤◌, min, Bool, true, false, List, [], ◌∷◌, length}
-use Rattle.std.specs.Prelude.{refl}
+use Rattle.std.specs.Prelude.{◌≡◌, ℕ, zero, suc, ◌+◌, ◌*◌, ◌≤◌, min, Bool, true, false, List, [], ◌∷◌, ◌++◌, length}
+use Rattle.std.specs.Prelude.{Option, Some, None, refl}
 use Rattle.std.proofs.Common.{arith, length-append, length-take}
-use Rattle.base.specs.Choice.{pick, cases}
+use Rattle.base.specs.Choice.{pick}
 use Rattle.base.specs.Write.{over}
 use Rattle.control.specs.declared.DongleMessage.{DongleMessage}
 use Rattle.control.specs.declared.DongleMessage.TheVariants.{SetPidPriority, RemovePid}
-use Rattle.control.specs.declared.outbox.Slot.{Slot}
 use Rattle.control_line.specs.Ring.{from}
 use Rattle.control_line.specs.declared.ControlLine.{ControlLine}
-use Rattle.desk.specs.declared.Revs.{Revs}
 use Rattle.manager.specs.Rows.{manager_table}
 use Rattle.obd2.specs.Core.{Lent, lent, box_of}
 use Rattle.poller.specs.Core.{with_polled}
@@ -20,6 +18,7 @@ use Rattle.pid_list.specs.Rules.{size_of, entries}
 use Rattle.pid_list.specs.declared.PidList.{PidList}
 use Rattle.pid_table.specs.Rows.{table_length}
 use Rattle.pid_table.specs.declared.PidInfo.{PidInfo}
+use Rattle.writing.specs.Added.{added, added_fits}
 use Rattle.writing.specs.Fill.{fill_of, fill_end, fill_fits, end_fits}
 use Rattle.writing.specs.Number.{decimal_short}
 use Rattle.writing_lists.specs.Parted.{parted}
@@ -58,7 +57,7 @@ unfolding message_text
 message_short (SetPidPriority p s) = simp length-append (omega (arith, pid_length p))
 message_short (RemovePid p) = simp length-append (omega (arith, pid_length p))
 
-from_length : (slots : List Slot) (n at : ℕ) → length (from slots at n) ≡ n
+from_length : (slots : List DongleMessage) (n at : ℕ) → length (from slots at n) ≡ n
 unfolding from
 from_length slots zero at = refl
 from_length slots (suc n) at = omega (arith, from_length slots n (suc at))
@@ -70,9 +69,10 @@ line_short l =
     let ms = from l.slots l.head n in
     omega (arith, each_short message_text 3 message_short ms false, from_length l.slots n l.head)
 
-revs_short : (r : Revs) → length (revs_text r) ≤ 21
+revs_short : (r : Option ℕ) → length (revs_text r) ≤ 21
 unfolding revs_text
-revs_short r = cases _ r.known (λ e. rw e (omega (arith, decimal_short r.value))) (λ e. rw e (omega arith))
+revs_short None = omega arith
+revs_short (Some v) = omega (arith, decimal_short v)
 
 -- A table has 256 places.
 pub show_short : (s : State) → length s.manager.table ≤ 256 → length (show_text s) ≤ 8192
@@ -93,6 +93,10 @@ pub show_whole : (s : State) (d : List ℕ) (at : ℕ) → length s.manager.tabl
     → (fill_end d at (show_text s) ≡ at + length (show_text s)) × (fill_of d at (show_text s) ≡ over d at (show_text s))
 show_whole s d at h k =
     let n = show_short s h in (end_fits d at (show_text s) (omega arith), fill_fits d at (show_text s) (omega arith))
+
+-- The same behind a text of at most n bytes.
+pub show_room : (s : State) (n : ℕ) (d : List ℕ) → length s.manager.table ≤ 256 → length d + 8192 ≤ n → added n d (show_text s) ≡ d ++ show_text s
+show_room s n d h k = let m = show_short s h in added_fits n d (show_text s) (omega arith)
 
 -- Lent arrays with these of what is shown.
 abbrev pub with_shown : Lent → List (List ℕ) → List (List ℕ) → List (List ℕ) → Lent

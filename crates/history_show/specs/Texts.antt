@@ -1,5 +1,5 @@
 -- The line of `show`: history-format.md, "`show` answers `show T FASTINDEX FAST SLOWINDEX SLOW TABLE LINE REVS`".
-use Rattle.std.specs.Prelude.{ℕ, suc, min, Bool, true, false, List, [], ◌∷◌, ◌++◌, map}
+use Rattle.std.specs.Prelude.{Option, Some, None, ℕ, suc, min, Bool, true, false, List, [], ◌∷◌, ◌++◌, map}
 use Rattle.base.specs.Choice.{pick}
 use Rattle.base.specs.Letters.{letter, letters}
 use Rattle.config.specs.declared.PidPriority.{PidPriority}
@@ -8,7 +8,6 @@ use Rattle.control.specs.declared.DongleMessage.{DongleMessage}
 use Rattle.control.specs.declared.DongleMessage.TheVariants.{SetPidPriority, RemovePid}
 use Rattle.control_line.specs.Ring.{from}
 use Rattle.control_line.specs.declared.ControlLine.{ControlLine}
-use Rattle.desk.specs.declared.Revs.{Revs}
 use Rattle.numeral.specs.Decimal.{decimal_text}
 use Rattle.obd2.specs.declared.State.{State}
 use Rattle.pid_list.specs.Rules.{entries}
@@ -55,8 +54,9 @@ unfoldable pub line_text : ControlLine → List ℕ
 line_text l = letter " " ∷ parted false (map message_text (from l.slots l.head (min l.count 1024)))
 
 -- "the stored revs. `-` where there is nothing"
-unfoldable pub revs_text : Revs → List ℕ
-revs_text r = letter " " ∷ pick r.known (decimal_text r.value) (letters "-")
+unfoldable pub revs_text : Option ℕ → List ℕ
+revs_text None = letter " " ∷ letters "-"
+revs_text (Some v) = letter " " ∷ decimal_text v
 
 -- THE LINE, with its line feed. "the last accepted time" comes first.
 unfoldable pub show_text : State → List ℕ

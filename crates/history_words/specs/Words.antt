@@ -1,5 +1,5 @@
 -- The words of the calls, as the page's table has them.
-use Rattle.std.specs.Prelude.{List, ℕ}
+use Rattle.std.specs.Prelude.{List, ℕ, Option, Some, None}
 use Rattle.base.specs.Choice.{pick}
 use Rattle.base.specs.Letters.{letters}
 use Rattle.text.specs.Cut.{same_of}
@@ -64,28 +64,28 @@ start' = letters "start"
 abbrev pub show' : List ℕ
 show' = letters "show"
 
-unfoldable pub rare_of : List ℕ → Word
+unfoldable pub rare_of : List ℕ → Option Word
 rare_of s =
-    pick (same_of s tick') (word.Bare Tick)
-    (pick (same_of s register') (word.Bare Register)
-    (pick (same_of s leave') word.Leave
-    (pick (same_of s giveup') word.GiveUp
-    (pick (same_of s profiles') word.Profiles
-    (pick (same_of s settings') word.Settings
-    (pick (same_of s connect') word.Connect
-    (pick (same_of s reconnect') (word.Bare ReconnectCheck)
-    (pick (same_of s start') word.Start
-    word.Other))))))))
+    pick (same_of s tick') (Some (word.Bare Tick))
+    (pick (same_of s register') (Some (word.Bare Register))
+    (pick (same_of s leave') (Some word.Leave)
+    (pick (same_of s giveup') (Some word.GiveUp)
+    (pick (same_of s profiles') (Some word.Profiles)
+    (pick (same_of s settings') (Some word.Settings)
+    (pick (same_of s connect') (Some word.Connect)
+    (pick (same_of s reconnect') (Some (word.Bare ReconnectCheck))
+    (pick (same_of s start') (Some word.Start)
+    None))))))))
 
-unfoldable pub word_of : List ℕ → Word
+unfoldable pub word_of : List ℕ → Option Word
 word_of s =
-    pick (same_of s next') (word.Bare Next)
-    (pick (same_of s result') word.Outcome
-    (pick (same_of s response') word.Response
-    (pick (same_of s ask') word.Ask
-    (pick (same_of s collect') word.Collect
-    (pick (same_of s waiting') word.Waiting
-    (pick (same_of s consumed') word.Consumed
-    (pick (same_of s take') (word.Bare TakeControl)
-    (pick (same_of s begin') (word.Bare Begin)
+    pick (same_of s next') (Some (word.Bare Next))
+    (pick (same_of s result') (Some word.Outcome)
+    (pick (same_of s response') (Some word.Response)
+    (pick (same_of s ask') (Some word.Ask)
+    (pick (same_of s collect') (Some word.Collect)
+    (pick (same_of s waiting') (Some word.Waiting)
+    (pick (same_of s consumed') (Some word.Consumed)
+    (pick (same_of s take') (Some (word.Bare TakeControl))
+    (pick (same_of s begin') (Some (word.Bare Begin))
     (rare_of s)))))))))

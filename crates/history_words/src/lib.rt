@@ -1,4 +1,4 @@
-// A line's first token, its word: the call that it names.
+// A line's first token, its word: the call that it names, if it is one.
 #![tactic(auto)]
 
 ghost use Rattle.std.specs.Prelude.{◌≡◌};
@@ -22,73 +22,73 @@ pub enum Word {
     Settings,
     Connect,
     Start,
-    // no word of a call
-    Other,
 }
 
 // Words that are often said are looked for first.
-pub fn of(s: &[u8]) -> Word
+#[tactic(auto, unfolding(crate::specs::Words::word_of))]
+pub fn of(s: &[u8]) -> Option<Word>
     ensures { result ≡ word_of s.now }
 {
     if text::is(s, b"next") {
-        return Word::Bare(Call::Next);
+        return Some(Word::Bare(Call::Next));
     }
     if text::is(s, b"result") {
-        return Word::Outcome;
+        return Some(Word::Outcome);
     }
     if text::is(s, b"response") {
-        return Word::Response;
+        return Some(Word::Response);
     }
     if text::is(s, b"ask") {
-        return Word::Ask;
+        return Some(Word::Ask);
     }
     if text::is(s, b"collect") {
-        return Word::Collect;
+        return Some(Word::Collect);
     }
     if text::is(s, b"waiting") {
-        return Word::Waiting;
+        return Some(Word::Waiting);
     }
     if text::is(s, b"consumed") {
-        return Word::Consumed;
+        return Some(Word::Consumed);
     }
     if text::is(s, b"take") {
-        return Word::Bare(Call::TakeControl);
+        return Some(Word::Bare(Call::TakeControl));
     }
     if text::is(s, b"begin") {
-        return Word::Bare(Call::Begin);
+        return Some(Word::Bare(Call::Begin));
     }
     rare(s)
 }
 
-fn rare(s: &[u8]) -> Word
+#[tactic(auto, unfolding(crate::specs::Words::rare_of))]
+fn rare(s: &[u8]) -> Option<Word>
     ensures { result ≡ rare_of s.now }
 {
     if text::is(s, b"tick") {
-        return Word::Bare(Call::Tick);
+        return Some(Word::Bare(Call::Tick));
     }
     if text::is(s, b"register") {
-        return Word::Bare(Call::Register);
+        return Some(Word::Bare(Call::Register));
     }
     if text::is(s, b"leave") {
-        return Word::Leave;
+        return Some(Word::Leave);
     }
     if text::is(s, b"giveup") {
-        return Word::GiveUp;
+        return Some(Word::GiveUp);
     }
     if text::is(s, b"profiles") {
-        return Word::Profiles;
+        return Some(Word::Profiles);
     }
     if text::is(s, b"settings") {
-        return Word::Settings;
+        return Some(Word::Settings);
     }
     if text::is(s, b"connect") {
-        return Word::Connect;
+        return Some(Word::Connect);
     }
     if text::is(s, b"reconnect") {
-        return Word::Bare(Call::ReconnectCheck);
+        return Some(Word::Bare(Call::ReconnectCheck));
     }
     if text::is(s, b"start") {
-        return Word::Start;
+        return Some(Word::Start);
     }
-    Word::Other
+    None
 }

@@ -5,6 +5,7 @@
 ghost use Rattle.std.specs.Prelude.{◌≡◌};
 ghost use Rattle.dispatch.specs.Dispatch.{call_of, area_of, Promised};
 ghost use Rattle.lent_calls.specs.Bringing.{bringing};
+ghost use Rattle.obd2.specs.Answer.{answered_in};
 ghost use Rattle.obd2.specs.Answers.{PromisedStart};
 ghost use Rattle.obd2.specs.History.{start_of, step};
 ghost use Rattle.profile_list.specs.Copied.{copied_of};
@@ -15,8 +16,8 @@ use obd2::{Answered, State};
 
 // The box's start. A list of more than 16 profiles is refused by 2 (`start_longer`).
 pub fn start(time: u64, settings: Settings, profiles: &[Profile]) -> Answered
-    ensures value { result ≡ start_of time settings (copied_of profiles.now) }
-    ensures promised_start { PromisedStart time settings (copied_of profiles.now) result }
+    ensures value { answered_in result ≡ start_of time settings (copied_of profiles.now) }
+    ensures promised_start { PromisedStart time settings (copied_of profiles.now) (answered_in result) }
 {
     let held = profile_list::copied(profiles);
     by_value::start(time, settings, held)
@@ -41,9 +42,9 @@ pub fn call(
     cmd: &[u8],
     area: &mut [u8],
 ) -> Answered
-    ensures value { result ≡ step state (call_of time call (bringing brought (copied_of profiles.now)) cmd.now area.old) }
+    ensures value { answered_in result ≡ step state (call_of time call (bringing brought (copied_of profiles.now)) cmd.now area.old) }
     ensures area_after { area.new ≡ area_of state time call (bringing brought (copied_of profiles.now)) cmd.now area.old }
-    ensures promised { Promised state (call_of time call (bringing brought (copied_of profiles.now)) cmd.now area.old) result }
+    ensures promised { Promised state (call_of time call (bringing brought (copied_of profiles.now)) cmd.now area.old) (answered_in result) }
 {
     let held = profile_list::copied(profiles);
     let brought = bringing(brought, held);

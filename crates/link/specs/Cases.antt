@@ -1,5 +1,5 @@
 -- Each definition of `Rules`, case by case.
-use Rattle.std.specs.Prelude.{true, false, ◌≡◌, ℕ}
+use Rattle.std.specs.Prelude.{true, false, Some, ◌≡◌, ℕ}
 use Rattle.base.specs.Choice.{cases}
 use Rattle.link.specs.Rules.{no_ranges, with_attempt, with_ranges, connect_of, fail_of, rested_of, reconnect_of}
 use Rattle.link.specs.declared.Link.{Link}
@@ -29,7 +29,7 @@ module _ (l : Link) where
   reconnect_connected t e = rw e
 
   pub reconnect_yes : (t : ℕ) → l.connected ≡ false → rested_of l.attempt t ≡ true
-      → reconnect_of l t ≡ record { link = with_attempt l (record { made = true; time = t }); yes = true }
+      → reconnect_of l t ≡ record { link = with_attempt l (Some t); yes = true }
   unfolding reconnect_of
   reconnect_yes t e f = rw (e, f)
 

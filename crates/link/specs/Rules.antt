@@ -1,12 +1,11 @@
 -- What the functions of `link` answer: document 01, "Rounds (poller)", second and last paragraph.
-use Rattle.std.specs.Prelude.{Bool, true, false, List, ℕ, ◌-◌, leb, eqb, replicate}
+use Rattle.std.specs.Prelude.{Bool, true, false, Option, Some, None, List, ℕ, ◌-◌, leb, eqb, replicate}
 use Rattle.base.specs.Choice.{pick}
 use Rattle.reply.specs.Rules.{absent_range}
 use Rattle.reply.specs.declared.RangeReply.{RangeReply}
 use Rattle.link.specs.declared.FeatureSupport.{FeatureSupport}
 use Rattle.link.specs.declared.FeatureSupport.TheVariants.{Unknown, Yes, No}
 use Rattle.link.specs.declared.Features.{Features}
-use Rattle.link.specs.declared.Attempt.{Attempt}
 use Rattle.link.specs.declared.Link.{Link}
 use Rattle.link.specs.declared.Session.{Session}
 use Rattle.link.specs.declared.Connecting.TheVariants.{Connected, Failed, Already}
@@ -34,11 +33,11 @@ start_link = record {
   features = unknown_features;
   ranges = no_ranges;
   known = replicate 256 false;
-  attempt = record { made = false; time = 0 };
+  attempt = None;
 }
 
 -- Setters, since antt has no record update.
-abbrev pub with_attempt : Link → Attempt → Link
+abbrev pub with_attempt : Link → Option ℕ → Link
 with_attempt l a = record { connected = l.connected; features = l.features; ranges = l.ranges; known = l.known; attempt = a }
 
 abbrev pub with_ranges : Link → Bool → List RangeReply → Link
@@ -62,8 +61,9 @@ unfoldable pub loss_of : Link → Link
 loss_of l = with_ranges l false no_ranges
 
 -- The first time, or 1,000 or more after the last yes.
-unfoldable pub rested_of : Attempt → ℕ → Bool
-rested_of a t = pick a.made (leb 1000 (t - a.time)) true
+unfoldable pub rested_of : Option ℕ → ℕ → Bool
+rested_of None t = true
+rested_of (Some last) t = leb 1000 (t - last)
 
 -- Unconnected only.
 unfoldable pub reconnect_of : Link → ℕ → Checked
@@ -71,5 +71,5 @@ reconnect_of l t =
     pick l.connected
     (record { link = l; yes = false })
     (pick (rested_of l.attempt t)
-    (record { link = with_attempt l (record { made = true; time = t }); yes = true })
+    (record { link = with_attempt l (Some t); yes = true })
     (record { link = l; yes = false }))

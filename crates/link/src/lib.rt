@@ -10,7 +10,7 @@ use reply::RangeReply;
 pub mod ranges;
 pub mod rest;
 
-// The Rust's FeatureSupport.
+// The Rust's FeatureSupport, with its three values: an Option<bool> says no more plainly which of them is which.
 #[derive(Clone, Copy)]
 pub enum FeatureSupport {
     Unknown,
@@ -24,13 +24,6 @@ pub struct Features {
     pub multi: FeatureSupport,
 }
 
-// The last reconnect check that said yes, if there was one.
-#[derive(Clone, Copy)]
-pub struct Attempt {
-    pub made: bool,
-    pub time: u64,
-}
-
 #[derive(Clone, Copy)]
 pub struct Link {
     pub connected: bool,
@@ -39,7 +32,8 @@ pub struct Link {
     pub ranges: [RangeReply; 8],
     // which PIDs' data lengths are known
     pub known: [bool; 256],
-    pub attempt: Attempt,
+    // the time of the last reconnect check that said yes, if there was one
+    pub attempt: Option<u64>,
 }
 
 // What a connection that was made hands in.
@@ -50,6 +44,7 @@ pub struct Session {
     pub known: [bool; 256],
 }
 
+// How connecting went. There are three outcomes, so that no Result fits.
 #[derive(Clone, Copy)]
 pub enum Connecting {
     Connected,
@@ -73,6 +68,7 @@ pub struct Checked {
 const RECONNECT_DELAY: u64 = 1000;
 
 // Eight ranges of which nothing is known.
+#[tactic(auto, unfolding(crate::specs::Rules::no_ranges))]
 pub fn no_ranges() -> [RangeReply; 8]
     ensures { result ≡ no_ranges }
 {
@@ -88,23 +84,16 @@ pub fn no_ranges() -> [RangeReply; 8]
 pub fn refuses(f: Features) -> bool
     ensures { result ≡ is_no f.multi }
 {
-    let multi = f.multi;
-    match multi {
-        FeatureSupport::No => true,
-        FeatureSupport::Yes => false,
-        FeatureSupport::Unknown => false,
-    }
+    matches!(f.multi, FeatureSupport::No)
 }
 
 // Whether a reconnect may be tried: the first time, or long enough after the last.
-fn rested(a: Attempt, time: u64) -> bool
-    ensures { result ≡ rested_of a time }
+#[tactic(auto, unfolding(crate::specs::Rules::rested_of))]
+fn rested(attempt: Option<u64>, time: u64) -> bool
+    ensures { result ≡ rested_of attempt time }
 {
-    if a.made {
-        if time < a.time {
-            return false;
-        }
-        return RECONNECT_DELAY <= time - a.time;
+    match attempt {
+        Some(last) => RECONNECT_DELAY <= base::elapsed(last, time),
+        None => true,
     }
-    true
 }

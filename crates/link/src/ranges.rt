@@ -43,6 +43,7 @@ pub fn unpack_range(row: [u8; RANGE_ROW]) -> RangeReply
 }
 
 // The rows of ranges of which nothing is known.
+#[tactic(auto, unfolding(crate::specs::Ranges::blank_ranges))]
 pub fn blank() -> [[u8; RANGE_ROW]; RANGES]
     ensures { result ≡ blank_ranges }
 {
@@ -54,12 +55,8 @@ pub fn pack_all(ranges: [RangeReply; RANGES]) -> [[u8; RANGE_ROW]; RANGES]
     ensures { ranges_of result ≡ ranges }
 {
     let mut rows = blank();
-    let mut i: usize = 0;
-    while i < RANGES {
-        let range = ranges[i];
-        let row = pack_range(range);
-        rows[i] = row;
-        i += 1;
+    for (i, range) in ranges.iter().enumerate() {
+        rows[i] = pack_range(*range);
     }
     rows
 }
@@ -69,12 +66,8 @@ pub fn unpack_all(rows: [[u8; RANGE_ROW]; RANGES]) -> [RangeReply; RANGES]
     ensures { result ≡ ranges_of rows }
 {
     let mut ranges = super::no_ranges();
-    let mut i: usize = 0;
-    while i < RANGES {
-        let row = rows[i];
-        let range = unpack_range(row);
-        ranges[i] = range;
-        i += 1;
+    for (i, row) in rows.iter().enumerate() {
+        ranges[i] = unpack_range(*row);
     }
     ranges
 }

@@ -4,13 +4,13 @@ ghost use Rattle.link.specs.Rules.{start_link, connect_of, fail_of, loss_of, rec
 ghost use Rattle.link.specs.Core.{link_of, linked_in, checked_in};
 
 use super::ranges::{RANGE_ROW, RANGES};
-use super::{Attempt, Connecting, FeatureSupport, Features, Session};
+use super::{Connecting, FeatureSupport, Features, Session};
 
 #[derive(Clone, Copy)]
 pub struct Core {
     pub connected: bool,
     pub features: Features,
-    pub attempt: Attempt,
+    pub attempt: Option<u64>,
 }
 
 // The connection after an outcome of connecting, and what is said to it.
@@ -28,6 +28,7 @@ pub struct Looked {
 }
 
 // No connection, and none tried, whatever the arrays had.
+#[tactic(auto, unfolding(crate::specs::Rules::start_link), using(crate::specs::Ranges::ranges_blank))]
 pub fn start(known: &mut [bool; 256], ranges: &mut [[u8; RANGE_ROW]; RANGES]) -> Core
     ensures { link_of known.new ranges.new result ≡ start_link }
 {
@@ -38,14 +39,12 @@ pub fn start(known: &mut [bool; 256], ranges: &mut [[u8; RANGE_ROW]; RANGES]) ->
         features: Features {
             multi: FeatureSupport::Unknown,
         },
-        attempt: Attempt {
-            made: false,
-            time: 0,
-        },
+        attempt: None,
     }
 }
 
 // A connection was made.
+#[tactic(auto, unfolding(crate::specs::Rules::connect_of))]
 pub fn connect(
     known: &mut [bool; 256],
     ranges: &mut [[u8; RANGE_ROW]; RANGES],
@@ -56,41 +55,41 @@ pub fn connect(
 {
     if core.connected {
         return Tried {
-            core: core,
+            core,
             said: Connecting::Already,
         };
     }
     let lengths = s.known;
     *known = lengths;
-    let told = s.ranges;
-    *ranges = super::ranges::pack_all(told);
-    let features = s.features;
+    *ranges = super::ranges::pack_all(s.ranges);
     core.connected = true;
-    core.features = features;
+    core.features = s.features;
     Tried {
-        core: core,
+        core,
         said: Connecting::Connected,
     }
 }
 
 // A connection was tried and not made.
+#[tactic(auto, unfolding(crate::specs::Rules::fail_of), using(crate::specs::Ranges::ranges_blank))]
 pub fn fail(ranges: &mut [[u8; RANGE_ROW]; RANGES], core: Core) -> Tried
     ensures { (known : List Bool) → linked_in known ranges.new result ≡ fail_of (link_of known ranges.old core) }
 {
     if core.connected {
         return Tried {
-            core: core,
+            core,
             said: Connecting::Already,
         };
     }
     *ranges = super::ranges::blank();
     Tried {
-        core: core,
+        core,
         said: Connecting::Failed,
     }
 }
 
 // The connection was lost.
+#[tactic(auto, unfolding(crate::specs::Rules::loss_of), using(crate::specs::Ranges::ranges_blank))]
 pub fn lose(ranges: &mut [[u8; RANGE_ROW]; RANGES], mut core: Core) -> Core
     ensures { (known : List Bool) → link_of known ranges.new result ≡ loss_of (link_of known ranges.old core) }
 {
@@ -100,29 +99,16 @@ pub fn lose(ranges: &mut [[u8; RANGE_ROW]; RANGES], mut core: Core) -> Core
 }
 
 // A reconnect check. While connected it changes nothing and says no.
+#[tactic(auto, unfolding(crate::specs::Rules::reconnect_of))]
 pub fn reconnect(mut core: Core, time: u64) -> Looked
     ensures { (known : List Bool) (ranges : List (List ℕ)) → checked_in known ranges result ≡ reconnect_of (link_of known ranges core) time }
 {
     if core.connected {
-        return Looked {
-            core: core,
-            yes: false,
-        };
+        return Looked { core, yes: false };
     }
-    let attempt = core.attempt;
-    if super::rested(attempt, time) {
-        let made = Attempt {
-            made: true,
-            time: time,
-        };
-        core.attempt = made;
-        return Looked {
-            core: core,
-            yes: true,
-        };
+    let yes = super::rested(core.attempt, time);
+    if yes {
+        core.attempt = Some(time);
     }
-    Looked {
-        core: core,
-        yes: false,
-    }
+    Looked { core, yes }
 }

@@ -15,6 +15,7 @@ use link::ranges::{RANGE_ROW, RANGES};
 use obd2::rest::{Core, Told};
 use obd2::{Said, telling};
 use poller::rest::KNOWN;
+use refusal::Refusal;
 use reply::RangeReply;
 
 // Whether a reconnect may be tried.
@@ -24,7 +25,7 @@ pub fn reconnect_check(mut core: Core, time: u64) -> Told
     let poller = core.poller;
     let round = poller.round;
     if poller::open(round) {
-        return telling::refuse(core, 12);
+        return telling::refuse(core, Refusal::RoundOpen);
     }
     let checked = poller::calls::reconnect(poller, time);
     let noted = checked.core;
@@ -73,12 +74,12 @@ pub fn connect(
 {
     let told = session.ranges;
     if any_over(told) {
-        return telling::refuse(core, 3);
+        return telling::refuse(core, Refusal::BadResponse);
     }
     let poller = core.poller;
     let round = poller.round;
     if poller::open(round) {
-        return telling::refuse(core, 12);
+        return telling::refuse(core, Refusal::RoundOpen);
     }
     let linked = poller::calls::connect(known, ranges, poller, session);
     let joined = linked.core;
@@ -95,7 +96,7 @@ pub fn connect_failed(ranges: &mut [[u8; RANGE_ROW]; RANGES], mut core: Core, ti
     let poller = core.poller;
     let round = poller.round;
     if poller::open(round) {
-        return telling::refuse(core, 12);
+        return telling::refuse(core, Refusal::RoundOpen);
     }
     let tried = poller::calls::fail(ranges, poller);
     let cleared = tried.core;

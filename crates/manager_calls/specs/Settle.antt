@@ -17,10 +17,12 @@ use Rattle.obd2.specs.Done.{Managing, manager_by, managing, manages, done_of}
 use Rattle.obd2.specs.History.{refused, accepting, settled, in_time}
 use Rattle.obd2.specs.Refusals.{exceeds, crowded, manager_rows, rows_of, row_refusal}
 use Rattle.obd2.specs.State.{managed, delivering}
-use Rattle.obd2.specs.declared.Answered.{Answered}
+use Rattle.obd2.specs.Answer.{Answered}
 use Rattle.obd2.specs.declared.State.{State}
 use Rattle.obd2.specs.declared.rest.Core.{Core}
 use Rattle.obd2.specs.declared.rest.Told.{Told}
+use Rattle.refusal.specs.Number.{number_of}
+use Rattle.refusal.specs.declared.Refusal.{Refusal}
 use Rattle.report.specs.Summary.{none_in}
 use Rattle.manager_calls.specs.Send.{Sent, send_of}
 
@@ -65,11 +67,11 @@ abbrev pub handling : Core → ManagerCore → Ends → Core
 handling k m l = record { desk = k.desk; manager = m; poller = k.poller; line = l; profiles = k.profiles; settings = k.settings; time = k.time }
 
 -- Refused by n: the manager and the line that came back are those that they were.
-pub handed_back : (x y : Lent) (k : Core) (m : ManagerCore) (l : Ends) (n : ℕ) (r : Told)
+pub handed_back : (x y : Lent) (k : Core) (m : ManagerCore) (l : Ends) (n : Refusal) (r : Told)
     → desk_of y.replies y.marks k.desk ≡ desk_of x.replies x.marks k.desk
     → y.polling ≡ x.polling
     → manager_of y.table m ≡ manager_of x.table k.manager
     → line_of y.slots l ≡ line_of x.slots k.line
     → r ≡ refusing (handling k m l) n
-    → answered_of y r ≡ refused (box_of x k) n
+    → answered_of y r ≡ refused (box_of x k) (number_of n)
 handed_back x y k m l n r d p e g f = rw (f, none_in y.pids y.rates, d, p, e, g)

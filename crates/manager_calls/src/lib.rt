@@ -23,6 +23,7 @@ use obd2::rest::{Core, Told};
 use obd2::{Said, answers, telling};
 use passes::Terms;
 use pid_table::WaitDuration;
+use refusal::Refusal;
 use report::summary::Summary;
 
 // The most messages of one call: a message for each PID that maintenance changes, and one for the event.
@@ -146,7 +147,7 @@ pub fn tell(
     core.manager = kept;
     core.line = longer;
     if sent.refused {
-        return telling::refuse(core, 15);
+        return telling::refuse(core, Refusal::LineFull);
     }
     core.profiles = profiles;
     let summary = sent.summary;
@@ -177,7 +178,7 @@ pub fn consumed(
 {
     let metrics = core.manager.metrics;
     if report::metrics::refused(metrics, wait) {
-        return telling::refuse(core, 4);
+        return telling::refuse(core, Refusal::BadConsumed);
     }
     let profiles = core.profiles;
     tell(
@@ -213,7 +214,7 @@ pub fn profile_pids_changed(
     ensures answers { (x : Lent) → Answers (box_of (with_manager x table.old slots.old pids.old rates.old) core) (profile_pids_changed time profiles) (answered_of (with_manager x table.new slots.new pids.new rates.new) result) }
 {
     if profile_check::bad_profiles(profiles) {
-        return telling::refuse(core, 2);
+        return telling::refuse(core, Refusal::UnknownKind);
     }
     tell(
         table,

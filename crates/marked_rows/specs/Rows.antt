@@ -8,7 +8,8 @@ use Rattle.config.specs.declared.PidPriority.TheVariants.{Fast, Slow}
 use Rattle.control.specs.declared.DongleMessage.{DongleMessage}
 use Rattle.control.specs.declared.DongleMessage.TheVariants.{SetPidPriority, RemovePid}
 use Rattle.delivery.specs.Rules.{revs_after}
-use Rattle.pid_list.specs.Rules.{empty_list, entries, next_of}
+use Rattle.desk.specs.Rules.{no_revs, revs_number}
+use Rattle.pid_list.specs.Rules.{empty_list, entries, pid_of, next_of}
 use Rattle.pid_list.specs.declared.PidList.{PidList}
 use Rattle.pid_table.specs.Entry.{is_fast, promotes_of, consumed_of, removed_of}
 use Rattle.pid_table.specs.declared.PidInfo.{PidInfo}
@@ -40,7 +41,7 @@ line bytes = record { lines = 1; lengths = length bytes ∷ replicate 7 0; bytes
 
 -- As one to PID 0Ch: its value, and the revs stored.
 abbrev value_row : List ℕ → List ℕ
-value_row bytes = value_of 12 (line bytes) ∷ (revs_after 12 (value_of 12 (line bytes)) (record { known = false; value = 0 })).value ∷ []
+value_row bytes = value_of 12 (line bytes) ∷ revs_number (revs_after 12 (value_of 12 (line bytes)) no_revs) ∷ []
 
 -- A Slow PID that was consumed at 0 and never waited for: whether it is tracked at a time, with a removal limit of
 -- 4,000; whether it is Fast after a wait, with a threshold of 40 in Ratio mode.
@@ -61,7 +62,7 @@ abbrev polling : PidList → Poller
 polling l = with_lists (start_of 0) l empty_list
 
 abbrev list_row : PidList → DongleMessage → List ℕ
-list_row l m = entries (apply_of (polling l) m).fast ++ ((next_of (apply_of (polling l) m).fast).pid ∷ [])
+list_row l m = entries (apply_of (polling l) m).fast ++ (pid_of (next_of (apply_of (polling l) m).fast) ∷ [])
 
 abbrev pub results : List (List ℕ)
 results =

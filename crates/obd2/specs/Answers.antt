@@ -1,6 +1,6 @@
 -- Document 01's number and values of each answer, what every call promises of them, and the ways to a call's answer that the
 -- functions take.
-use Rattle.std.specs.Prelude.{◌≡◌, ℕ, Bool, true, false, List, [], ◌∷◌, ◌++◌, map, take, ◌==◌, ◌≢◌}
+use Rattle.std.specs.Prelude.{None, Option, Some, ◌≡◌, ℕ, Bool, true, false, List, [], ◌∷◌, ◌++◌, map, take, ◌==◌, ◌≢◌}
 use Rattle.std.specs.Prelude.{refl}
 use Rattle.std.proofs.Common.{sym, ◌∙◌, eqb-true, ne_eqb}
 use Rattle.base.specs.Choice.{pick, one, cases}
@@ -11,9 +11,8 @@ use Rattle.config.specs.Defaults.{default_settings}
 use Rattle.config.specs.declared.PidPriority.TheVariants.{Fast, Slow}
 use Rattle.config.specs.declared.Profiles.{Profiles}
 use Rattle.config.specs.declared.Settings.{Settings}
+use Rattle.control.specs.declared.DongleMessage.{DongleMessage}
 use Rattle.control.specs.declared.DongleMessage.TheVariants.{SetPidPriority, RemovePid}
-use Rattle.control_line.specs.declared.Taken.{Taken}
-use Rattle.control_line.specs.declared.Taken.TheVariants.{Message, Nothing}
 use Rattle.link.specs.declared.Connecting.{Connecting as Connect}
 use Rattle.link.specs.declared.Connecting.TheVariants.{Connected, Failed, Already}
 use Rattle.poller.specs.State.{pids_of}
@@ -26,11 +25,11 @@ use Rattle.obd2.specs.History.{refused, settled, in_time, start_of}
 use Rattle.obd2.specs.Refusals.{row_refusal, start_refusal}
 use Rattle.obd2.specs.State.{at, no_details, answered, started}
 use Rattle.obd2.specs.declared.State.{State}
-use Rattle.obd2.specs.declared.Answer.{Answer}
-use Rattle.obd2.specs.declared.Answer.TheVariants.{Refused, Accepted}
+use Rattle.obd2.specs.Answer.{Answer}
+use Rattle.obd2.specs.Answer.{Refused, Accepted}
 use Rattle.obd2.specs.declared.Said.{Said}
 use Rattle.obd2.specs.declared.Said.TheVariants.{Started, Client, Done, Asked, Collected, GivenUp, Taken as Took, Connecting, Check, Step}
-use Rattle.obd2.specs.declared.Answered.{Answered}
+use Rattle.obd2.specs.Answer.{Answered}
 use Rattle.obd2.specs.declared.Details.{Details}
 
 -- The refusal's number, 0 where the call is accepted.
@@ -44,11 +43,11 @@ number_in (Accepted a) = 0
 abbrev pub line_lengths : Details → List ℕ
 line_lengths d = take d.lines d.lengths
 
-abbrev pub taken_values : Taken → List ℕ
-taken_values Nothing = []
-taken_values (Message (SetPidPriority p Fast)) = p ∷ 0 ∷ []
-taken_values (Message (SetPidPriority p Slow)) = p ∷ 1 ∷ []
-taken_values (Message (RemovePid p)) = p ∷ []
+abbrev pub taken_values : Option DongleMessage → List ℕ
+taken_values None = []
+taken_values (Some (SetPidPriority p Fast)) = p ∷ 0 ∷ []
+taken_values (Some (SetPidPriority p Slow)) = p ∷ 1 ∷ []
+taken_values (Some (RemovePid p)) = p ∷ []
 
 abbrev pub connecting_values : Connect → List ℕ
 connecting_values Connected = []

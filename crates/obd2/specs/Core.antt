@@ -1,6 +1,7 @@
 -- The box as it is held: the lent arrays and what goes by value, put together as the box that the calls are said of.
-use Rattle.std.specs.Prelude.{◌≡◌, ℕ, Bool, false, List, replicate}
+use Rattle.std.specs.Prelude.{◌≡◌, ℕ, Bool, false, List, replicate, Ok, Err}
 use Rattle.std.specs.Prelude.{Float}
+use Rattle.std.proofs.Common.{ap, ◌∙◌}
 use Rattle.control_line.specs.Rows.{line_of}
 use Rattle.desk.specs.Core.{desk_of}
 use Rattle.manager.specs.Rows.{manager_of}
@@ -9,11 +10,11 @@ use Rattle.poller.specs.State.{no_query}
 use Rattle.poller.specs.declared.Query.{Query}
 use Rattle.report.specs.Summary.{report_in, no_summary, none_in}
 use Rattle.report.specs.declared.summary.Summary.{Summary}
+use Rattle.refusal.specs.Number.{number_of}
+use Rattle.refusal.specs.declared.Refusal.{Refusal}
 use Rattle.obd2.specs.History.{refused}
 use Rattle.obd2.specs.State.{at, no_details, lines_of, delivering, querying, answered}
-use Rattle.obd2.specs.declared.Answer.{Answer}
-use Rattle.obd2.specs.declared.Answer.TheVariants.{Refused, Accepted}
-use Rattle.obd2.specs.declared.Answered.{Answered}
+use Rattle.obd2.specs.Answer.{Answered, Accepted, answer_of}
 use Rattle.obd2.specs.declared.Details.{Details}
 use Rattle.obd2.specs.declared.Said.{Said}
 use Rattle.obd2.specs.declared.State.{State}
@@ -75,7 +76,7 @@ details_of x n = record {
 }
 
 abbrev pub answered_of : Lent → Told → Answered
-answered_of x r = record { state = box_of x r.core; answer = r.answer; details = details_of x r.notes }
+answered_of x r = record { state = box_of x r.core; answer = answer_of r.answer; details = details_of x r.notes }
 
 -- What stands beside an answer.
 abbrev pub delivers : List ℕ → List Bool → Summary → Notes
@@ -97,16 +98,20 @@ queries q = record { lines = 0; lengths = replicate 8 0; values = replicate 6 0;
 abbrev pub at_time : Core → ℕ → Core
 at_time k t = record { desk = k.desk; manager = k.manager; poller = k.poller; line = k.line; profiles = k.profiles; settings = k.settings; time = t }
 
-abbrev pub refusing : Core → ℕ → Told
-refusing k n = record { core = k; answer = Refused n; notes = no_notes }
+abbrev pub refusing : Core → Refusal → Told
+refusing k n = record { core = k; answer = Err n; notes = no_notes }
 
 abbrev pub accepts : Core → ℕ → Said → Notes → Told
-accepts k t said n = record { core = at_time k t; answer = Accepted said; notes = n }
+accepts k t said n = record { core = at_time k t; answer = Ok said; notes = n }
 
 -- What a call's function answers, as the box's answer.
 module _ (x : Lent) (k : Core) (r : Told) where
-  pub refused_is : (n : ℕ) → r ≡ refusing k n → answered_of x r ≡ refused (box_of x k) n
+  pub refused_is : (n : Refusal) → r ≡ refusing k n → answered_of x r ≡ refused (box_of x k) (number_of n)
   refused_is n e = rw (e, none_in x.pids x.rates)
+
+  -- The same by a number that a component told.
+  pub refused_by : (n : Refusal) (m : ℕ) → number_of n ≡ m → r ≡ refusing k n → answered_of x r ≡ refused (box_of x k) m
+  refused_by n m g e = refused_is n e ∙ ap (refused (box_of x k)) g
 
   module _ (t : ℕ) (said : Said) where
     pub accepted_is : (n : Notes) (d : Details) → details_of x n ≡ d → r ≡ accepts k t said n → answered_of x r ≡ answered (at (box_of x k) t) (Accepted said) d

@@ -1,12 +1,11 @@
 -- What an accepted call does, side by side: document 01's rules for desk, manager and poller, put together.
-use Rattle.std.specs.Prelude.{ℕ, ◌+◌, Bool, false, List, replicate}
+use Rattle.std.specs.Prelude.{None, Option, Some, ℕ, ◌+◌, Bool, false, List, replicate}
 use Rattle.cache.specs.Rules.{answer_of, handed_of, after_ask, step_of}
 use Rattle.cache.specs.declared.Step.{Step}
 use Rattle.clients.specs.Rules.{idled_of}
 use Rattle.config.specs.declared.Profiles.{Profiles}
+use Rattle.control.specs.declared.DongleMessage.{DongleMessage}
 use Rattle.control_line.specs.Ring.{take_of}
-use Rattle.control_line.specs.declared.Taken.{Taken}
-use Rattle.control_line.specs.declared.Taken.TheVariants as taken
 use Rattle.delivery.specs.Rules.{response_of}
 use Rattle.desk.specs.Rules.{entered, leave_of, client_of, put_client}
 use Rattle.desk.specs.declared.Desk.{Desk}
@@ -80,9 +79,9 @@ pub record Polling : Type 0 where
   pub details : Details
 
 -- A control message that is taken goes into the poller's lists.
-abbrev pub listing : Poller → Taken → Poller
-listing p taken.Nothing = p
-listing p (taken.Message m) = apply_of p m
+abbrev pub listing : Poller → Option DongleMessage → Poller
+listing p None = p
+listing p (Some m) = apply_of p m
 
 module _ (s : State) where
   -- What an ask comes to, with the connection as it is.

@@ -14,11 +14,11 @@ use Rattle.obd2.specs.Done.{Done, ranges, ask_step, done_of}
 use Rattle.obd2.specs.Refusals.{start_refusal, row_refusal, refusal_of}
 use Rattle.obd2.specs.State.{at, no_details, answered, started}
 use Rattle.obd2.specs.declared.State.{State}
-use Rattle.obd2.specs.declared.Answer.{Answer}
-use Rattle.obd2.specs.declared.Answer.TheVariants.{Refused, Accepted}
+use Rattle.obd2.specs.Answer.{Answer}
+use Rattle.obd2.specs.Answer.{Refused, Accepted}
 use Rattle.obd2.specs.declared.Said.TheVariants as said
 use Rattle.obd2.specs.declared.Details.{Details}
-use Rattle.obd2.specs.declared.Answered.{Answered}
+use Rattle.obd2.specs.Answer.{Answered}
 
 abbrev pub refused : State → ℕ → Answered
 refused s n = answered s (Refused n) no_details

@@ -11,7 +11,7 @@ use Rattle.obd2.specs.Done.{done_of}
 use Rattle.obd2.specs.History.{refused, accepting, step, in_time, run, accepted_by}
 use Rattle.obd2.specs.Refusals.{bad_time, rows_of, row_refusal, refusal_of}
 use Rattle.obd2.specs.State.{at}
-use Rattle.obd2.specs.declared.Answered.{Answered}
+use Rattle.obd2.specs.Answer.{Answered}
 use Rattle.obd2.specs.declared.State.{State}
 
 module _ (s : State) (c : Call) where

@@ -1,3 +1,5 @@
+pub mod Listed
+pub mod Answer
 pub mod State
 pub mod Call
 pub mod Done

@@ -16,9 +16,9 @@ use Rattle.poller.specs.declared.Query.{Query}
 use Rattle.report.specs.Report.{no_report}
 use Rattle.report.specs.declared.Report.{Report}
 use Rattle.obd2.specs.declared.State.{State}
-use Rattle.obd2.specs.declared.Answer.{Answer}
+use Rattle.obd2.specs.Answer.{Answer}
 use Rattle.obd2.specs.declared.Details.{Details}
-use Rattle.obd2.specs.declared.Answered.{Answered}
+use Rattle.obd2.specs.Answer.{Answered}
 
 -- Setters, since antt has no record update. A part that is not set is as it was.
 abbrev pub with_desk : State → Desk → State

@@ -9,10 +9,7 @@ const LATEST: u64 = 16777215999;
 pub fn bad_time(last: u64, time: u64) -> bool
     ensures { result ≡ bad_time last time }
 {
-    if time < last {
-        return true;
-    }
-    LATEST < time
+    time < last || LATEST < time
 }
 
 // Refusal 15: with so many control messages waiting, the line has no room for those of the call.

@@ -3,11 +3,13 @@
 #![tactic(auto)]
 
 use config::{Profiles, Settings};
-use control_line::{ControlLine, Taken};
+use control::DongleMessage;
+use control_line::ControlLine;
 use desk::Desk;
 use link::Connecting;
 use manager::Manager;
 use poller::{Poller, Query};
+use refusal::Refusal;
 use report::Report;
 use rounds::Step;
 
@@ -32,12 +34,7 @@ pub struct State {
 }
 
 // What a call answers.
-#[derive(Clone, Copy)]
-pub enum Answer {
-    // document 01's number
-    Refused(u8),
-    Accepted(Said),
-}
+pub type Answer = Result<Said, Refusal>;
 
 // What an accepted call says, in the words of the side that it is of. An answer that hands out bytes has them in the lent
 // area, and the lines' lengths in `Details`.
@@ -52,7 +49,7 @@ pub enum Said {
     Collected(u8, u64),
     // NO DATA
     GivenUp,
-    Taken(Taken),
+    Taken(Option<DongleMessage>),
     Connecting(Connecting),
     // whether a reconnect may be tried
     Check(bool),

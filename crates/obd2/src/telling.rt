@@ -3,8 +3,9 @@ ghost use Rattle.std.specs.Prelude.{◌≡◌};
 ghost use Rattle.obd2.specs.Core.{delivers, reports, no_notes, noted, queries, refusing, accepts};
 
 use super::rest::{Core, Notes, Told};
-use super::{Answer, Said};
+use super::Said;
 use poller::Query;
+use refusal::Refusal;
 use report::summary::Summary;
 
 // What a response brought for each of its PIDs, and the report of a manager's call.
@@ -54,14 +55,14 @@ pub fn querying(query: Query) -> Notes
     notes
 }
 
-// A refused call: its number, and the box as it was.
-pub fn refuse(core: Core, number: u8) -> Told
-    ensures { result ≡ refusing core number }
+// A refused call: why, and the box as it was.
+pub fn refuse(core: Core, refusal: Refusal) -> Told
+    ensures { result ≡ refusing core refusal }
 {
     let notes = no_notes();
     Told {
         core: core,
-        answer: Answer::Refused(number),
+        answer: Err(refusal),
         notes: notes,
     }
 }
@@ -73,7 +74,7 @@ pub fn accept(mut core: Core, time: u64, said: Said, notes: Notes) -> Told
     core.time = time;
     Told {
         core: core,
-        answer: Answer::Accepted(said),
+        answer: Ok(said),
         notes: notes,
     }
 }

@@ -1,5 +1,5 @@
 -- Round robin: from any index, as many calls of `next` as a list has entries answer each of them once.
-use Rattle.std.specs.Prelude.{true, false, ◌≡◌, eqb, take, drop}
+use Rattle.std.specs.Prelude.{Some, None, ◌≡◌, eqb, take, drop}
 use mathlib.Core.List.{List, [], ◌∷◌, ◌++◌, append-nil}
 use Rattle.std.proofs.Math.Path.{ap}
 use Rattle.std.proofs.Common.{sym, ◌∙◌, take-append-drop}
@@ -13,7 +13,7 @@ use Rattle.base.specs.Choice.{cases}
 use Rattle.base.specs.Times.{times, times_append}
 use Rattle.pid_list.specs.Laws.{size_small, entry_at}
 use Rattle.pid_list.specs.Members.{Sound, sound_length}
-use Rattle.pid_list.specs.Rules.{with_index, entries, wrap, next_of}
+use Rattle.pid_list.specs.Rules.{with_index, entries, wrap, pid_of, next_of}
 use Rattle.pid_list.specs.declared.PidList.{PidList}
 use Rattle.pid_list.specs.declared.Picked.{Picked}
 
@@ -23,21 +23,21 @@ turned zero l = l
 turned (suc k) l = (next_of (turned k l)).list
 
 unfoldable pub answered : ℕ → PidList → ℕ
-answered k l = (next_of (turned k l)).pid
+answered k l = pid_of (next_of (turned k l))
 
 -- What n calls answer, the first first.
 unfoldable pub picks : ℕ → PidList → List ℕ
 picks zero l = []
-picks (suc n) l = (next_of l).pid ∷ picks n (next_of l).list
+picks (suc n) l = pid_of (next_of l) ∷ picks n (next_of l).list
 
 -- An empty list answers nothing and stays.
-pub next_none : (l : PidList) → l.len ≡ 0 → next_of l ≡ record { list = l; found = false; pid = 0 }
+pub next_none : (l : PidList) → l.len ≡ 0 → next_of l ≡ record { list = l; pid = None }
 unfolding next_of
 next_none l e = rw (e, size_small 0 (omega arith))
 
 module _ (l : PidList) (s : Sound l) (some : 0 < l.len) where
   -- One call: the entry at the index, and the index one further.
-  pub next_some : next_of l ≡ record { list = with_index l ((l.index + 1) % l.len); found = true; pid = get_or (entries l) l.index 0 }
+  pub next_some : next_of l ≡ record { list = with_index l ((l.index + 1) % l.len); pid = Some (get_or (entries l) l.index 0) }
   unfolding next_of wrap
   next_some =
       let b = s.below some in
@@ -66,7 +66,7 @@ next_sound l s = cases _ (eqb l.len 0)
 
 module _ (l : PidList) (s : Sound l) (some : 0 < l.len) where
   -- The same from any place of the list.
-  pub next_at : (i : ℕ) → i < l.len → next_of (with_index l i) ≡ record { list = with_index l ((i + 1) % l.len); found = true; pid = get_or (entries l) i 0 }
+  pub next_at : (i : ℕ) → i < l.len → next_of (with_index l i) ≡ record { list = with_index l ((i + 1) % l.len); pid = Some (get_or (entries l) i 0) }
   unfolding entries
   next_at i h = next_some (with_index l i) (moved_sound l s some i h) some
 
@@ -86,8 +86,8 @@ module _ (l : PidList) (s : Sound l) (some : 0 < l.len) where
   pub answered_is : (k : ℕ) → answered k l ≡ get_or (entries l) ((l.index + k) % l.len) 0
   unfolding answered
   answered_is k =
-      ap (λ (x : PidList). (next_of x).pid) (turned_is k)
-      ∙ ap (λ (x : Picked). x.pid) (next_at ((l.index + k) % l.len) (mod-lt (l.index + k) some))
+      ap (λ (x : PidList). pid_of (next_of x)) (turned_is k)
+      ∙ ap (λ (x : Picked). pid_of x) (next_at ((l.index + k) % l.len) (mod-lt (l.index + k) some))
 
   -- As many calls as there are entries: the index is back.
   pub around : turned l.len l ≡ l

@@ -1,5 +1,6 @@
 -- What the functions of `pid_list` answer: document 01, "Rounds (poller)", first paragraph.
-use Rattle.std.specs.Prelude.{true, false, List, [], ◌∷◌, ℕ, suc, ◌+◌, ◌-◌, ◌%◌, ltb, eqb, set, get_or, take, replicate}
+use Rattle.std.specs.Prelude.{Bool, Some, None, is_some, List, [], ◌∷◌, ℕ, suc, ◌+◌, ◌-◌, ◌%◌, ltb, eqb, set, get_or, take, replicate}
+use Rattle.std.specs.Option.{unwrap_or}
 use Rattle.base.specs.Choice.{pick}
 use Rattle.pid_list.specs.declared.PidList.{PidList}
 use Rattle.pid_list.specs.declared.Picked.{Picked}
@@ -55,13 +56,19 @@ remove_of l p = fit_of (swap_out l p)
 unfoldable pub set_of : PidList → ℕ → PidList
 set_of l p = fit_of (append_of (swap_out l p) p)
 
+-- Whether a PID was picked, and which one; 0 where none was.
+abbrev pub found : Picked → Bool
+found c = is_some c.pid
+
+abbrev pub pid_of : Picked → ℕ
+pid_of c = unwrap_or c.pid 0
+
 -- The PID at the index, and the index one further, from the end to the start.
 unfoldable pub next_of : PidList → Picked
 next_of l =
     pick (eqb (size_of l.len) 0)
-    (record { list = l; found = false; pid = 0 })
+    (record { list = l; pid = None })
     (record {
       list = with_index l (wrap (wrap l.index (size_of l.len) + 1) (size_of l.len));
-      found = true;
-      pid = get_or l.pids (wrap l.index (size_of l.len)) 0;
+      pid = Some (get_or l.pids (wrap l.index (size_of l.len)) 0);
     })

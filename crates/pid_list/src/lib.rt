@@ -1,10 +1,12 @@
 // The poller's list of PIDs, as the Rust's IndexSet with its index: an array of 256 places with a length.
 #![tactic(auto)]
 
-ghost use Rattle.std.specs.Prelude.{◌≡◌, ◌<◌, take};
-ghost use Rattle.pid_list.specs.Rules.{size_of, place, wrap, empty_list, swap_out, append_of, fit_of, remove_of, set_of, next_of};
+ghost use Rattle.std.specs.Prelude.{◌≡◌, ◌==◌, ◌<◌};
+ghost use Rattle.std.specs.List.{position};
+ghost use Rattle.pid_list.specs.Rules.{size_of, wrap, empty_list, swap_out, append_of, fit_of, remove_of, set_of, next_of};
 
 // The first `len` of `pids`, and the place that is polled next. A length above 256 counts as 256.
+// An array with its count, since the box runs in fixed memory.
 #[derive(Clone, Copy)]
 pub struct PidList {
     pub pids: [u8; 256],
@@ -16,10 +18,10 @@ pub struct PidList {
 #[derive(Clone, Copy)]
 pub struct Picked {
     pub list: PidList,
-    pub found: bool,
-    pub pid: u8,
+    pub pid: Option<u8>,
 }
 
+#[tactic(auto, unfolding(crate::specs::Rules::empty_list))]
 pub fn empty() -> PidList
     ensures { result ≡ empty_list }
 {
@@ -31,13 +33,15 @@ pub fn empty() -> PidList
 }
 
 // How many places count.
+#[tactic(auto, unfolding(crate::specs::Rules::size_of))]
 pub fn size(len: usize) -> usize
     ensures { result ≡ size_of len }
 {
-    if len < 256 { len } else { 256 }
+    len.min(256)
 }
 
 // An index within a list of n, 0 in an empty one.
+#[tactic(auto, unfolding(crate::specs::Rules::wrap))]
 fn wrapped(index: usize, n: usize) -> usize
     ensures { result ≡ wrap index n }
 {
@@ -51,19 +55,11 @@ pub fn row(pid: u8) -> usize
     pid as usize
 }
 
-// The first place of pid among the first `len` of `pids`, or how many these are.
-fn find(pids: &[u8], len: usize, pid: u8) -> usize
-    ensures { result ≡ place (take len pids.now) pid }
+// The first place of pid.
+fn find(pids: &[u8], pid: u8) -> Option<usize>
+    ensures { result ≡ position (λ x. x == pid) pids.now }
 {
-    let n = base::least(len, pids.len());
-    let mut i = 0;
-    while i < n {
-        if pids[i] == pid {
-            return i;
-        }
-        i += 1;
-    }
-    n
+    pids.iter().position(|entry| *entry == pid)
 }
 
 // The last entry moves into pid's place. The index is not touched: `fit` follows once the list is as it is to be.
@@ -71,45 +67,41 @@ fn swap_remove(mut l: PidList, pid: u8) -> PidList
     ensures { result ≡ swap_out l pid }
 {
     let n = size(l.len);
-    let at = find(&l.pids, n, pid);
-    if at < n {
+    l.len = n;
+    if let Some(at) = find(&l.pids[..n], pid) {
         let last = n - 1;
         let moved = l.pids[last];
         l.pids[at] = moved;
         l.len = last;
-        l
-    } else {
-        l.len = n;
-        l
     }
+    l
 }
 
 // pid at the end; a full list stays as it is.
+#[tactic(auto, unfolding(crate::specs::Rules::append_of))]
 fn append(mut l: PidList, pid: u8) -> PidList
     ensures { result ≡ append_of l pid }
 {
     let n = size(l.len);
+    l.len = n;
     if n < 256 {
         l.pids[n] = pid;
         l.len = n + 1;
-        l
-    } else {
-        l.len = n;
-        l
     }
+    l
 }
 
 // The index reduced modulo the length.
+#[tactic(auto, unfolding(crate::specs::Rules::fit_of))]
 fn fit(mut l: PidList) -> PidList
     ensures { result ≡ fit_of l }
 {
-    let n = size(l.len);
-    let w = wrapped(l.index, n);
-    l.index = w;
+    l.index = wrapped(l.index, size(l.len));
     l
 }
 
 // The list without pid.
+#[tactic(auto, unfolding(crate::specs::Rules::remove_of))]
 pub fn remove(l: PidList, pid: u8) -> PidList
     ensures { result ≡ remove_of l pid }
 {
@@ -117,6 +109,7 @@ pub fn remove(l: PidList, pid: u8) -> PidList
 }
 
 // The list with pid at its end, wherever it stood before.
+#[tactic(auto, unfolding(crate::specs::Rules::set_of))]
 pub fn set(l: PidList, pid: u8) -> PidList
     ensures { result ≡ set_of l pid }
 {
@@ -124,24 +117,19 @@ pub fn set(l: PidList, pid: u8) -> PidList
 }
 
 // The PID at the index, which moves on by one and from the end to the start.
+#[tactic(auto, unfolding(crate::specs::Rules::next_of))]
 pub fn next(mut l: PidList) -> Picked
     ensures { result ≡ next_of l }
 {
     let n = size(l.len);
     if n == 0 {
-        return Picked {
-            list: l,
-            found: false,
-            pid: 0,
-        };
+        return Picked { list: l, pid: None };
     }
     let at = wrapped(l.index, n);
     let pid = l.pids[at];
-    let w = wrapped(at + 1, n);
-    l.index = w;
+    l.index = wrapped(at + 1, n);
     Picked {
         list: l,
-        found: true,
-        pid: pid,
+        pid: Some(pid),
     }
 }

@@ -11,6 +11,7 @@ use Rattle.std.proofs.Math.Seq.{take-nil, set-append_seam, take-append_seam, dro
 use Rattle.std.proofs.lemmas.List.Edits.{sets, sets-eq}
 use borrow.Author.Tests.{ltb-true, ltb-false, eqb-true, eqb-false, eq-eqb, ne_eqb}
 use Rattle.base.specs.Choice.{pick, cases}
+use Rattle.base.specs.Write.{over, over_lent}
 use Rattle.plan.specs.Groups.{width_of, members}
 use Rattle.plan.specs.Steps.{padded, line_size, line_of, key_in, nearer_of, least_from, passed, chunk_of, gather_of}
 use Rattle.plan.specs.declared.Plan.{Plan}
@@ -161,9 +162,9 @@ module _ (key : ℕ → ℕ) (above best : ℕ) (xs : List ℕ) (i : ℕ) where
   unfolding least_from
   least_end h = rw (drop_of_length-le xs h)
 
-module _ (into xs : List ℕ) (base i : ℕ) where
-  pub sets_turn : i < length xs → sets into (base + i) (drop i xs) ≡ sets (set into (base + i) (get_or xs i 0)) (base + (i + 1)) (drop (i + 1) xs)
-  sets_turn h = let e : base + suc i ≡ suc (base + i) = omega arith in rw (add-one i, e, drop-cons xs i 0 h)
-
-  pub sets_end : length xs ≤ i → sets into (base + i) (drop i xs) ≡ into
-  sets_end h = rw (drop_of_length-le xs h)
+-- A list written over a part of another, through a lent end of it.
+pub sets_lent : (into xs part : List ℕ) (base n : ℕ) → length into ≡ n → base + length xs ≤ n → part ≡ over (take (n - base) (drop base into)) 0 xs
+    → take base into ++ (part ++ drop (n - base) (drop base into)) ≡ sets into base xs
+unfolding over
+sets_lent into xs part base n l h e =
+    rw (sets-eq xs into base (omega arith), append_assoc) (rw (← l) (over_lent into base xs part (omega arith) (rw l e)))

@@ -12,6 +12,7 @@ use pid_list::PidList;
 
 // The PIDs of both lists, fast then slow, with what was known of each when the round began; and how far the
 // round is: the group that is asked, and the place from which its PIDs are still to be asked.
+// An array with its count, since the box runs in fixed memory.
 #[derive(Clone, Copy)]
 pub struct Plan {
     pub pids: [u8; 512],
@@ -23,7 +24,7 @@ pub struct Plan {
     pub at: usize,
 }
 
-// PIDs that are asked together: the first `count`.
+// PIDs that are asked together: the first `count`. An array with its count, since the box runs in fixed memory.
 #[derive(Clone, Copy)]
 pub struct Chunk {
     pub pids: [u8; 6],
@@ -47,32 +48,27 @@ pub struct Taken {
 const REST: usize = 256;
 
 // How many PIDs a query of a group takes.
+#[tactic(auto, unfolding(crate::specs::Groups::width_of))]
 fn width(maxpids: u8, group: usize) -> usize
     ensures { result ≡ width_of maxpids group }
 {
     if group == REST {
-        return 1;
+        1
+    } else {
+        (maxpids as usize).clamp(2, 6)
     }
-    if maxpids < 2 {
-        return 2;
-    }
-    if 6 < maxpids {
-        return 6;
-    }
-    maxpids as usize
 }
 
 // A PID's group, from its ECU count and whether its length is known.
+#[tactic(auto, unfolding(crate::specs::Groups::group_of))]
 fn group(count: u8, known: bool) -> usize
     ensures { result ≡ group_of count known }
 {
-    if known {
-        if count == 0 {
-            return REST;
-        }
-        return count as usize;
+    if known && count != 0 {
+        count as usize
+    } else {
+        REST
     }
-    REST
 }
 
 // The list's PIDs, stored from the place `base` on.
@@ -81,13 +77,7 @@ fn add(mut pids: [u8; 512], base: usize, l: PidList) -> [u8; 512]
     ensures { result ≡ sets pids base (entries l) }
 {
     let n = pid_list::size(l.len);
-    let mut i = 0;
-    while i < n {
-        let at = base + i;
-        let pid = l.pids[i];
-        pids[at] = pid;
-        i += 1;
-    }
+    base::copy(&l.pids[..n], &mut pids[base..]);
     pids
 }
 
@@ -111,36 +101,30 @@ pub fn make(fast: PidList, slow: PidList, counts: [u8; 256], known: [bool; 256],
 }
 
 // How many places of the plan count.
+#[tactic(auto, unfolding(crate::specs::Steps::line_size))]
 fn size(len: usize) -> usize
     ensures { result ≡ line_size len }
 {
-    if len < 512 { len } else { 512 }
+    len.min(512)
 }
 
 // The group g instead of `best` where it is nearer above `above`.
+#[tactic(auto, unfolding(crate::specs::Steps::nearer_of))]
 fn nearer(above: usize, g: usize, best: usize) -> usize
     ensures { result ≡ nearer_of above g best }
 {
-    if above < g {
-        if g < best {
-            return g;
-        }
-    }
-    best
+    if above < g && g < best { g } else { best }
 }
 
 // The least group above `above` that has a PID; 257 if there is none.
 fn least(p: Plan, above: usize) -> usize
     ensures { result ≡ least_in p above }
 {
-    let n = size(p.len);
     let mut best = 257;
-    let mut i = 0;
-    while i < n {
-        let q = pid_list::row(p.pids[i]);
+    for pid in &p.pids[..size(p.len)] {
+        let q = pid_list::row(*pid);
         let g = group(p.counts[q], p.known[q]);
         best = nearer(above, g, best);
-        i += 1;
     }
     best
 }
@@ -153,31 +137,26 @@ fn gather(p: Plan, wanted: usize, from: usize) -> Gathered
     let w = width(p.maxpids, wanted);
     let mut pids = [0u8; 6];
     let mut count = 0;
-    let mut i = from;
-    while i < n {
+    for i in from..n {
         let pid = p.pids[i];
         let q = pid_list::row(pid);
         let g = group(p.counts[q], p.known[q]);
-        i += 1;
         if g == wanted {
             pids[count] = pid;
             count += 1;
             if count == w {
-                let full = Chunk {
-                    pids: pids,
-                    count: count,
+                let full = Chunk { pids, count };
+                return Gathered {
+                    chunk: full,
+                    at: i + 1,
                 };
-                return Gathered { chunk: full, at: i };
             }
         }
     }
-    let chunk = Chunk {
-        pids: pids,
-        count: count,
-    };
+    let chunk = Chunk { pids, count };
     Gathered {
-        chunk: chunk,
-        at: i,
+        chunk,
+        at: n.max(from),
     }
 }
 

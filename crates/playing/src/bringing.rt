@@ -1,10 +1,12 @@
 // What a line brings, put in the place of what such a line brought before.
 use crate::tasks::{List, Task};
+use config::Profiles;
 use history::brought;
-use history_calls::bringing::{OutcomeRead, SessionRead};
-use history_lists::{ProfilesRead, ResponseRead};
+use link::Session;
 use obd2::call::Brought;
 use poller::Round;
+use reply::Response;
+use rounds::Outcome;
 
 // What the calls brought, and whether the line's list is good.
 #[derive(Clone, Copy)]
@@ -18,47 +20,59 @@ fn named(round: Round) -> usize {
     round.due.count
 }
 
-fn bring_profiles(mut brought: Brought, read: ProfilesRead) -> Bringing {
-    if read.good {
-        let profiles = read.profiles;
-        brought.profiles = profiles;
-    }
+fn bring_profiles(mut brought: Brought, read: Option<Profiles>) -> Bringing {
+    let Some(profiles) = read else {
+        return Bringing {
+            brought,
+            good: false,
+        };
+    };
+    brought.profiles = profiles;
     Bringing {
         brought,
-        good: read.good,
+        good: true,
     }
 }
 
-fn bring_response(mut brought: Brought, read: ResponseRead) -> Bringing {
-    if read.good {
-        let response = read.response;
-        brought.response = response;
-    }
+fn bring_response(mut brought: Brought, read: Option<Response>) -> Bringing {
+    let Some(response) = read else {
+        return Bringing {
+            brought,
+            good: false,
+        };
+    };
+    brought.response = response;
     Bringing {
         brought,
-        good: read.good,
+        good: true,
     }
 }
 
-fn bring_session(mut brought: Brought, read: SessionRead) -> Bringing {
-    if read.good {
-        let session = read.session;
-        brought.session = session;
-    }
+fn bring_session(mut brought: Brought, read: Option<Session>) -> Bringing {
+    let Some(session) = read else {
+        return Bringing {
+            brought,
+            good: false,
+        };
+    };
+    brought.session = session;
     Bringing {
         brought,
-        good: read.good,
+        good: true,
     }
 }
 
-fn bring_outcome(mut brought: Brought, read: OutcomeRead) -> Bringing {
-    if read.good {
-        let outcome = read.outcome;
-        brought.outcome = outcome;
-    }
+fn bring_outcome(mut brought: Brought, read: Option<Outcome>) -> Bringing {
+    let Some(outcome) = read else {
+        return Bringing {
+            brought,
+            good: false,
+        };
+    };
+    brought.outcome = outcome;
     Bringing {
         brought,
-        good: read.good,
+        good: true,
     }
 }
 

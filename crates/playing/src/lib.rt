@@ -23,6 +23,7 @@ use reply::rows::ROW;
 use std::io;
 use std::io::Write;
 use tasks::Task;
+use writing::Text;
 
 // No answer is longer: a call's has at most 4,096 bytes (`answer_whole`), that of `show` 8,192 (`show_whole`).
 const ANSWER: usize = 16384;
@@ -30,18 +31,11 @@ const ANSWER: usize = 16384;
 // The places of the control line.
 pub const WAITING: usize = control_line::places::PLACES;
 
-// The last answer, which has what goes by value of the box, what the calls brought, and the notes beside them.
+// The last answer, which has what goes by value of the box, what the calls brought, and the line that is being read.
 #[derive(Clone, Copy)]
 pub struct Playing {
     pub last: Told,
     pub brought: Brought,
-    pub notes: Notes,
-}
-
-// How many bytes of answers wait to be written, and the line that is being read.
-#[derive(Clone, Copy)]
-pub struct Notes {
-    pub waiting: usize,
     pub reading: Reading,
 }
 
@@ -77,14 +71,10 @@ pub fn first(
         settings,
         profiles,
     );
-    let notes = Notes {
-        waiting: 0,
-        reading: lines::start(),
-    };
     Playing {
         last,
         brought,
-        notes,
+        reading: lines::start(),
     }
 }
 
@@ -100,51 +90,39 @@ fn delivered(call: Call, mut response: Response) -> Response {
 }
 
 // Puts the last answer behind those that wait.
-fn tell(
-    mut notes: Notes,
+fn tell<const N: usize>(
+    out: &mut Text<N>,
     pids: &[u8; 256],
     rates: &[f32; 256],
     response: Response,
     last: Told,
     area: &[u8],
-    out: &mut [u8],
-) -> Notes
+)
     requires pids_len { length pids.now ≡ 256 }
     requires rates_len { length rates.now ≡ 256 }
 {
     let answer = last.answer;
-    notes.waiting = history_answer::answer(
-        out,
-        notes.waiting,
-        pids,
-        rates,
-        answer,
-        last.notes,
-        response,
-        area,
-    );
-    notes
+    history_answer::answer(out, pids, rates, answer, last.notes, response, area);
 }
 
 // Writes the answers that wait.
-fn flush<W: Write>(mut notes: Notes, out: &[u8], writer: &mut W) -> io::Result<Notes> {
-    let n = base::least(notes.waiting, out.len());
-    writer.write_all(&out[..n])?;
-    notes.waiting = 0;
-    Ok(notes)
+fn flush<const N: usize, W: Write>(out: &mut Text<N>, writer: &mut W) -> io::Result<()> {
+    writer.write_all(out.as_slice())?;
+    out.clear();
+    Ok(())
 }
 
 // Makes room for one more answer.
-fn room<W: Write>(notes: Notes, out: &[u8], writer: &mut W) -> io::Result<Notes> {
-    if out.len() - base::least(notes.waiting, out.len()) < ANSWER {
-        return flush(notes, out, writer);
+fn room<const N: usize, W: Write>(out: &mut Text<N>, writer: &mut W) -> io::Result<()> {
+    if out.room() < ANSWER {
+        return flush(out, writer);
     }
-    Ok(notes)
+    Ok(())
 }
 
 // Answers each line that ends in a part of the input. What goes by value of the box stands in the last answer and goes from it
 // straight into the next call: each place that it is put down in between costs a copy of it.
-pub fn answer_part<W: Write>(
+pub fn answer_part<const N: usize, W: Write>(
     replies: &mut [[u8; ROW]; 256],
     marks: &mut [[bool; 256]; PLACES],
     table: &mut [[u64; 8]; 256],
@@ -160,7 +138,7 @@ pub fn answer_part<W: Write>(
     line: &mut [u8],
     bytes: &mut [u8],
     area: &mut [u8],
-    out: &mut [u8],
+    out: &mut Text<N>,
     writer: &mut W,
 ) -> io::Result<Playing>
     requires { Whole (lent replies.old marks.old table.old slots.old (held polled.old known.old order.old ranges.old) pids.old rates.old) }
@@ -168,14 +146,14 @@ pub fn answer_part<W: Write>(
 {
     let mut last = playing.last;
     let mut brought = playing.brought;
-    let mut notes = playing.notes;
+    let mut reading = playing.reading;
     let mut at = 0;
     while at < input.len() {
-        let fed = lines::feed(notes.reading, &input[at..], line);
+        let fed = lines::feed(reading, &input[at..], line);
         at += fed.used;
         let len = base::least(fed.reading.len, line.len());
-        let taken = tasks::take_line(notes, fed, &line[..len], bytes, out, writer)?;
-        notes = taken.notes;
+        let taken = tasks::take_line(fed, &line[..len], bytes, out, writer)?;
+        reading = taken.reading;
         let mut task = taken.task;
         let list = taken.list;
         if tasks::brings(list) {
@@ -185,17 +163,8 @@ pub fn answer_part<W: Write>(
         }
         match task {
             Task::Nothing => {}
-            Task::Bad => notes.waiting = history_answer::bad_line(out, notes.waiting),
-            Task::Show => {
-                notes.waiting = history_show::show(
-                    out,
-                    notes.waiting,
-                    table,
-                    slots,
-                    polled,
-                    last.core,
-                );
-            }
+            Task::Bad => history_answer::bad_line(out),
+            Task::Show => history_show::show(out, table, slots, polled, last.core),
             Task::Start(asked) => {
                 last = setup_calls::start(
                     replies,
@@ -212,7 +181,7 @@ pub fn answer_part<W: Write>(
                 );
                 // like a tick, a start brings no response
                 let response = delivered(Call::Tick, brought.response);
-                notes = tell(notes, pids, rates, response, last, b"", out);
+                tell(out, pids, rates, response, last, b"");
             }
             Task::Call(asked) => {
                 let cmd = &bytes[..base::least(asked.cmd, bytes.len())];
@@ -224,14 +193,14 @@ pub fn answer_part<W: Write>(
                     last.core, asked.time, call, brought, cmd, room,
                 );
                 let response = delivered(call, brought.response);
-                notes = tell(notes, pids, rates, response, last, &area[..m], out);
+                tell(out, pids, rates, response, last, &area[..m]);
             }
         }
     }
-    notes = flush(notes, out, writer)?;
+    flush(out, writer)?;
     Ok(Playing {
         last,
         brought,
-        notes,
+        reading,
     })
 }

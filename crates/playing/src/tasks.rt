@@ -1,16 +1,16 @@
 // What a line asks for, told before what it brings is read.
-use crate::Notes;
 use config::Settings;
 use history_calls::Line;
-use lines::Fed;
+use lines::{Fed, Reading};
 use obd2::call::Call;
 use std::io;
 use std::io::Write;
+use writing::Text;
 
-// What a line asks for if the list that it brings is good, that list, and the notes.
+// What a line asks for if the list that it brings is good, that list, and the line that is read now.
 #[derive(Clone, Copy)]
 pub struct Taken {
-    pub notes: Notes,
+    pub reading: Reading,
     pub task: Task,
     pub list: List,
 }
@@ -66,7 +66,6 @@ fn bare(time: u64, call: Call) -> Task {
 // What a line asks for, if its list is good.
 fn task_of(line: Line) -> Task {
     match line {
-        Line::Bad => Task::Bad,
         Line::Show => Task::Show,
         Line::Call {
             time,
@@ -110,52 +109,51 @@ pub(crate) fn brings(list: List) -> bool {
 }
 
 // A task that no list goes with.
-fn alone(notes: Notes, task: Task) -> Taken {
+fn alone(reading: Reading, task: Task) -> Taken {
     Taken {
-        notes,
+        reading,
         task,
         list: List::None,
     }
 }
 
 // What a line asks for that has ended. One that is too long is no call.
-fn read_line<W: Write>(
-    notes: Notes,
+fn read_line<const N: usize, W: Write>(
     line: &[u8],
     long: bool,
     bytes: &mut [u8],
-    out: &[u8],
+    out: &mut Text<N>,
     writer: &mut W,
 ) -> io::Result<Taken> {
+    let reading = lines::start();
     if !lines::answers(line) {
-        return Ok(alone(notes, Task::Nothing));
+        return Ok(alone(reading, Task::Nothing));
     }
-    let notes = crate::room(notes, out, writer)?;
+    crate::room(out, writer)?;
     if long {
-        return Ok(alone(notes, Task::Bad));
+        return Ok(alone(reading, Task::Bad));
     }
-    let what = history::parse(line, bytes);
+    let Some(what) = history::parse(line, bytes) else {
+        return Ok(alone(notes, Task::Bad));
+    };
     Ok(Taken {
-        notes,
+        reading,
         task: task_of(what),
         list: list_of(what),
     })
 }
 
 // What is to be done once a part of the input was read, of which `line` is the line.
-pub(crate) fn take_line<W: Write>(
-    mut notes: Notes,
+pub(crate) fn take_line<const N: usize, W: Write>(
     fed: Fed,
     line: &[u8],
     bytes: &mut [u8],
-    out: &[u8],
+    out: &mut Text<N>,
     writer: &mut W,
 ) -> io::Result<Taken> {
     let read = fed.reading;
     if !fed.ended {
-        notes.reading = read;
-        return Ok(alone(notes, Task::Nothing));
+        return Ok(alone(read, Task::Nothing));
     }
-    notes.reading = lines::start();
-    read_line(notes, line, read.long, bytes, out, writer)
+    read_line(line, read.long, bytes, out, writer)
 }

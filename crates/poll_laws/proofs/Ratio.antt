@@ -4,7 +4,7 @@ use Rattle.std.proofs.Common.{ap, sym, ◌∙◌, arith, leb-false, le-leb, ne_e
 use Rattle.base.specs.Choice.{pick, cases}
 use Rattle.base.specs.Count.{more_of, more_is}
 use Rattle.config.specs.declared.Settings.{Settings}
-use Rattle.pid_list.specs.Rules.{next_of as nextPid}
+use Rattle.pid_list.specs.Rules.{found, next_of as nextPid}
 use Rattle.poll_laws.specs.Keeps.{result_untouched}
 use Rattle.rounds.specs.Cases.{slow_not, slow_sent, slow_unsent, first_some, result_due_law, next_in}
 use Rattle.rounds.specs.Next.{issue_of, end_of, slow_due, slow_passes, slow_of, next_of}
@@ -19,7 +19,7 @@ pub slow_requests : (p : Poller) (t : ℕ) → (slow_of p t).poller.requests ≡
 unfolding issue_of end_of
 slow_requests p t =
     cases _ (slow_passes p t)
-    (λ e. cases _ ((nextPid p.slow).found && p.link.connected)
+    (λ e. cases _ (found (nextPid p.slow) && p.link.connected)
     (λ f. rw (slow_sent p t e f, e))
     (λ f. rw (slow_unsent p t e f, e)))
     (λ e. rw (slow_not p t e, e))
@@ -30,7 +30,7 @@ unfolding slow_due
 ratio_test p t m some = slow_requests p t ∙ rw (ne_eqb p.settings.mode 0 m, some)
 
 -- The three calls of a single round with a fast PID: the fast query, its result, the slow test.
-pub next_fast : (p : Poller) (t : ℕ) → p.round.phase ≡ First → (nextPid p.fast).found ≡ true
+pub next_fast : (p : Poller) (t : ℕ) → p.round.phase ≡ First → found (nextPid p.fast) ≡ true
     → ((next_of p t).poller.round.phase ≡ FastDue) × ((next_of p t).poller.requests ≡ more_of p.requests) × ((next_of p t).poller.settings ≡ p.settings)
     × ((next_of p t).poller.round.nofast ≡ p.round.nofast)
 unfolding issue_of
@@ -41,7 +41,7 @@ unfolding round_after
 result_fast p t o e = rw (result_due_law p t o, e)
 
 -- In Ratio mode, in a round that began with a fast PID, the fast requests rise by one or go to 0.
-pub ratio_round : (p : Poller) (t u v : ℕ) (o : Outcome) → p.round.phase ≡ First → (nextPid p.fast).found ≡ true → p.round.nofast ≡ false → (p.settings.mode ≡ 0 → ⊥)
+pub ratio_round : (p : Poller) (t u v : ℕ) (o : Outcome) → p.round.phase ≡ First → found (nextPid p.fast) ≡ true → p.round.nofast ≡ false → (p.settings.mode ≡ 0 → ⊥)
     → (next_of (result_of (next_of p t).poller u o) v).poller.requests ≡ requests_after p.settings.ratio p.requests
 ratio_round p t u v o first some began m =
     let q = (next_of p t).poller in

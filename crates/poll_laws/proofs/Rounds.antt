@@ -4,7 +4,7 @@ use Rattle.std.proofs.Common.{ap, arith, length-append}
 use Rattle.base.specs.Choice.{cases}
 use Rattle.config.specs.declared.Settings.{Settings}
 use Rattle.link.specs.Rules.{is_no}
-use Rattle.pid_list.specs.Rules.{entries, next_of as nextPid}
+use Rattle.pid_list.specs.Rules.{entries, found, next_of as nextPid}
 use Rattle.plan.specs.Left.{keys_of, take_left, plan_left}
 use Rattle.plan.specs.Steps.{left_of, take_of, plan_of}
 use Rattle.plan.specs.Whole.{round_length}
@@ -31,7 +31,7 @@ unfolding issue_of
 slow_stride p t =
     cases _ (slow_passes p t)
     (λ e.
-    cases _ ((nextPid p.slow).found && p.link.connected)
+    cases _ (found (nextPid p.slow) && p.link.connected)
     (λ f. rw (slow_sent p t e f) (issued refl refl refl (omega arith)))
     (λ f. rw (slow_unsent p t e f) (end_stride p _ 1 refl)))
     (λ e. rw (slow_not p t e) (end_stride p p 1 refl))
@@ -43,7 +43,7 @@ wider p m n r h (issued e f k g) = issued e f k (omega arith)
 first_stride : (p : Poller) (t : ℕ) → Stride p 2 (first_of p t)
 unfolding issue_of
 first_stride p t =
-    cases _ (nextPid p.fast).found
+    cases _ (found (nextPid p.fast))
     (λ e. rw (first_some p t e) (issued refl refl refl (omega arith)))
     (λ e. rw (first_none p t e) (wider p 1 2 _ (omega arith) (slow_stride p t)))
 

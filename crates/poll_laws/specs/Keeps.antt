@@ -3,7 +3,7 @@ use Rattle.std.specs.Prelude.{◌&&◌, ◌≡◌, refl, ℕ, eqb}
 use Rattle.base.specs.Choice.{cases}
 use Rattle.pid_list.specs.Members.{Sound, next_entries}
 use Rattle.pid_list.specs.Robin.{next_sound}
-use Rattle.pid_list.specs.Rules.{entries, next_of as nextPid}
+use Rattle.pid_list.specs.Rules.{entries, found, next_of as nextPid}
 use Rattle.plan.specs.Steps.{take_of}
 use Rattle.plan.specs.declared.Chunk.{Chunk}
 use Rattle.rounds.specs.Cases.{slow_not, slow_sent, slow_unsent, first_some, first_none, multi_end, multi_some, result_due_law}
@@ -55,7 +55,7 @@ end_kept p r k = record {
 slow_kept : (p : Poller) (t : ℕ) → Kept p (slow_of p t).poller
 slow_kept p t =
     cases _ (slow_passes p t)
-    (λ e. cases _ ((nextPid p.slow).found && p.link.connected)
+    (λ e. cases _ (found (nextPid p.slow) && p.link.connected)
     (λ f. rw (slow_sent p t e f) (issue_kept p _ SlowDue _ (record {
       fast_entries = refl;
       slow_entries = next_entries p.slow;
@@ -77,7 +77,7 @@ slow_kept p t =
     (λ e. rw (slow_not p t e) (end_kept p p (same p)))
 
 first_kept : (p : Poller) (t : ℕ) → Kept p (first_of p t).poller
-first_kept p t = cases _ (nextPid p.fast).found
+first_kept p t = cases _ (found (nextPid p.fast))
     (λ e. rw (first_some p t e) (issue_kept p _ FastDue _ (record {
       fast_entries = next_entries p.fast;
       slow_entries = refl;

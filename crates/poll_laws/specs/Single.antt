@@ -2,7 +2,7 @@
 use Rattle.std.specs.Prelude.{Bool, true, false, ◌&&◌, ◌≡◌, refl, ℕ, eqb}
 use Rattle.base.specs.Choice.{pick, cases}
 use Rattle.config.specs.declared.Settings.{Settings}
-use Rattle.pid_list.specs.Rules.{next_of as nextPid}
+use Rattle.pid_list.specs.Rules.{found, next_of as nextPid}
 use Rattle.plan.specs.Steps.{take_of}
 use Rattle.poller.specs.Calls.{begin_of}
 use Rattle.poller.specs.Cases.{begin_over}
@@ -20,7 +20,7 @@ module _ (p : Poller) (t : ℕ) where
   due = slow_passes p t
 
   abbrev sent : Bool
-  sent = (nextPid p.slow).found && p.link.connected
+  sent = found (nextPid p.slow) && p.link.connected
 
   -- The slow index moves at a passed test, whether or not the connection stands; the fast list stays.
   pub slow_lists : ((slow_of p t).poller.slow ≡ pick due (nextPid p.slow).list p.slow) × ((slow_of p t).poller.fast ≡ p.fast)
@@ -41,7 +41,7 @@ module _ (p : Poller) (t : ℕ) where
   result_clock o e = rw (result_due_law p t o, e)
 
   -- The fast query moves the fast list alone.
-  pub first_slow : (nextPid p.fast).found ≡ true → ((first_of p t).poller.slow ≡ p.slow) × ((first_of p t).poller.clock ≡ p.clock)
+  pub first_slow : found (nextPid p.fast) ≡ true → ((first_of p t).poller.slow ≡ p.slow) × ((first_of p t).poller.clock ≡ p.clock)
   unfolding issue_of
   first_slow e = rw (first_some p t e) (refl, refl)
 

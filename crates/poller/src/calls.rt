@@ -12,6 +12,7 @@ use link::ranges::{RANGE_ROW, RANGES};
 use pid_list::PidList;
 
 // The two lists after a control message: the PID out of both, and at the end of its own.
+#[tactic(auto, unfolding(crate::specs::Calls::applied_of))]
 fn applied(fast: PidList, slow: PidList, m: DongleMessage) -> Lists
     ensures { result ≡ applied_of fast slow m }
 {
@@ -71,12 +72,10 @@ pub fn connect(
     let mut lengths = known[LENGTHS];
     let made = link::rest::connect(&mut lengths, ranges, link, s);
     known[LENGTHS] = lengths;
-    let after = made.core;
-    let said = made.said;
-    p.link = after;
+    p.link = made.core;
     Tried {
         core: p,
-        said: said,
+        said: made.said,
     }
 }
 
@@ -86,12 +85,10 @@ pub fn fail(ranges: &mut [[u8; RANGE_ROW]; RANGES], mut p: Core) -> Tried
 {
     let link = p.link;
     let tried = link::rest::fail(ranges, link);
-    let after = tried.core;
-    let said = tried.said;
-    p.link = after;
+    p.link = tried.core;
     Tried {
         core: p,
-        said: said,
+        said: tried.said,
     }
 }
 
@@ -101,8 +98,7 @@ pub fn reconnect(mut p: Core, time: u64) -> Looked
 {
     let link = p.link;
     let checked = link::rest::reconnect(link, time);
-    let after = checked.core;
-    p.link = after;
+    p.link = checked.core;
     Looked {
         core: p,
         yes: checked.yes,
@@ -113,10 +109,7 @@ pub fn reconnect(mut p: Core, time: u64) -> Looked
 fn multi_allowed(switch: bool, denied: bool) -> bool
     ensures { result ≡ multi_allowed switch denied }
 {
-    if switch {
-        return !denied;
-    }
-    false
+    switch && !denied
 }
 
 // A round is opened with the settings of now, and keeps whether its fast list is empty. Without a connection it has nothing to ask.

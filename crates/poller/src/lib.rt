@@ -14,7 +14,8 @@ use plan::Plan;
 pub mod calls;
 pub mod rest;
 
-// A query: the first `count` of `pids`, and the ECU count kept for them, 0 for none.
+// A query: the first `count` of `pids`, and the ECU count kept for them, 0 for none. An array with its count, since the box runs in
+// fixed memory.
 #[derive(Clone, Copy)]
 pub struct Query {
     pub pids: [u8; 6],
@@ -101,12 +102,11 @@ pub fn no_query() -> Query
 fn opened(phase: Phase, nofast: bool) -> Round
     ensures { result ≡ opened_round phase nofast }
 {
-    let due = no_query();
     Round {
-        phase: phase,
-        nofast: nofast,
+        phase,
+        nofast,
         issued: 0,
-        due: due,
+        due: no_query(),
     }
 }
 
@@ -121,32 +121,12 @@ pub fn closed() -> Round
 pub fn open(r: Round) -> bool
     ensures { result ≡ open_of r.phase }
 {
-    let phase = r.phase;
-    match phase {
-        Phase::Closed => false,
-        Phase::First => true,
-        Phase::FastDue => true,
-        Phase::Test => true,
-        Phase::SlowDue => true,
-        Phase::Multi => true,
-        Phase::MultiDue => true,
-        Phase::Over => true,
-    }
+    !matches!(r.phase, Phase::Closed)
 }
 
 // Whether a result is due.
 pub fn due(r: Round) -> bool
     ensures { result ≡ due_of r.phase }
 {
-    let phase = r.phase;
-    match phase {
-        Phase::Closed => false,
-        Phase::First => false,
-        Phase::FastDue => true,
-        Phase::Test => false,
-        Phase::SlowDue => true,
-        Phase::Multi => false,
-        Phase::MultiDue => true,
-        Phase::Over => false,
-    }
+    matches!(r.phase, Phase::FastDue | Phase::SlowDue | Phase::MultiDue)
 }

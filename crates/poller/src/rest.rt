@@ -163,6 +163,7 @@ pub fn keep(
     course_of(plan)
 }
 
+#[tactic(auto, unfolding(crate::specs::Core::blank_polled))]
 fn blank_polled() -> [[u8; 256]; POLLED]
     ensures { result ≡ blank_polled }
 {

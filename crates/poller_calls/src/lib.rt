@@ -9,25 +9,26 @@ ghost use Rattle.obd2.specs.Done.{listing};
 ghost use Rattle.obd2.specs.Answers.{Answers};
 ghost use Rattle.poller.specs.Core.{Held, with_polled, polled_rows, poller_of};
 
-use control_line::Taken;
+use control::DongleMessage;
 use control_line::places::PLACES;
 use obd2::rest::{Core, Told};
 use obd2::{Said, telling};
 use poller::rest::POLLED;
+use refusal::Refusal;
 
 // The poller after what was taken: a message goes into its lists.
 fn listing(
     polled: &mut [[u8; 256]; POLLED],
     poller: poller::rest::Core,
-    taken: Taken,
+    taken: Option<DongleMessage>,
 ) -> poller::rest::Core
     requires { length polled.old ≡ polled_rows }
     ensures polled_len { length polled.new ≡ polled_rows }
     ensures result_after { (x : Held) → poller_of (with_polled x polled.new) result ≡ listing (poller_of (with_polled x polled.old) poller) taken }
 {
     match taken {
-        Taken::Message(message) => poller::calls::apply(polled, poller, message),
-        Taken::Nothing => poller,
+        Some(message) => poller::calls::apply(polled, poller, message),
+        None => poller,
     }
 }
 
@@ -45,7 +46,7 @@ pub fn take_control(
     let poller = core.poller;
     let round = poller.round;
     if poller::open(round) {
-        return telling::refuse(core, 12);
+        return telling::refuse(core, Refusal::RoundOpen);
     }
     let ends = core.line;
     let shorter = control_line::places::take(slots, ends);

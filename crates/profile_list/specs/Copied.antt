@@ -20,10 +20,3 @@ kept_of n = pick (leb n 16) n 0
 -- Those records as they were lent, and no profile in the places behind them.
 unfoldable pub copied_of : List Profile → Profiles
 copied_of ps = record { list = take (kept_of (length ps)) ps ++ blanks (16 - kept_of (length ps)); count = count_of (length ps) }
-
--- The array once i records are copied, and the count with it.
-unfoldable pub held_of : List Profile → ℕ → List Profile
-held_of ps i = take i ps ++ blanks (16 - i)
-
-abbrev pub part_of : List Profile → ℕ → Profiles
-part_of ps i = record { list = held_of ps i; count = count_of (length ps) }

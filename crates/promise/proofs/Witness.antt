@@ -1,7 +1,7 @@
 -- Histories that meet every hypothesis of the demand, all the way from a start: a connection made and a round begun with nothing
 -- listed yet, its end, the messages of two PIDs taken, and from there two rounds. One with a Fast and a Slow PID, where the second
 -- round passes the slow test; one with two Slow PIDs alone, where both rounds pass it. All of it is computed.
-use Rattle.std.specs.Prelude.{Bool, true, false, List, [], ◌∷◌, ◌++◌, map, ◌≡◌, refl, ℕ, ◌+◌, ◌*◌, ◌<◌, ◌≤◌, max, eqb, length}
+use Rattle.std.specs.Prelude.{Some, Bool, true, false, List, [], ◌∷◌, ◌++◌, map, ◌≡◌, refl, ℕ, ◌+◌, ◌*◌, ◌<◌, ◌≤◌, max, eqb, length}
 use Rattle.std.proofs.Common.{ap, ◌∙◌, arith}
 use Rattle.base.specs.Both.{both_left, both_right}
 use Rattle.base.specs.Choice.{pick, cases}
@@ -16,7 +16,6 @@ use Rattle.control.specs.Outbox.{empty_of, send_all, messages, push_of as pushOu
 use Rattle.control.specs.Told.{told_of}
 use Rattle.control.specs.declared.DongleMessage.{DongleMessage}
 use Rattle.control_line.specs.Ring.{empty_line, push_of, push_all_of, take_of, from, waiting}
-use Rattle.control_line.specs.declared.Taken.TheVariants.{Message}
 use Rattle.link.specs.Rules.{no_ranges, start_link, connect_of as linkUp}
 use Rattle.manager.specs.Calls.{no_table, register_of, start_of as startManager}
 use Rattle.passes.specs.Sweep.{through, news, entry_after, swept, tidings}
@@ -28,7 +27,7 @@ use Rattle.poller.specs.Calls.{applied_of, connect_of, begin_of}
 use Rattle.rounds.specs.Next.{issue_of, end_of, slow_due, slow_of, first_of as firstQuery, next_of}
 use Rattle.rounds.specs.Result.{keep_of, teach_of, teach_all, learn_of, link_after, round_after, result_of}
 use Rattle.poller.specs.State.{pids_of, start_of as startPoller}
-use Rattle.profile_check.specs.Check.{bad_profiles, unknown_mode, unknown_of, many}
+use Rattle.profile_check.specs.Check.{bad_profiles, unknown_mode, unknown_of}
 use Rattle.reply.specs.Rules.{within_of, sum_of, counted_of, lengths_of, total_of}
 use Rattle.obd2.specs.Answers.{values_of}
 use Rattle.obd2.specs.Call.{begin, next, round, RoundCall, Begin, Next, Result}
@@ -38,8 +37,8 @@ use Rattle.obd2.specs.History.{start_of, event_of, accepted, step, run, happened
 use Rattle.obd2.specs.Refusals.{over_range, start_refusal, link_rows, round_rows, rows_of, refusal_of}
 use Rattle.obd2.specs.State.{started}
 use Rattle.obd2.specs.declared.State.{State}
-use Rattle.obd2.specs.declared.Answer.TheVariants.{Accepted}
-use Rattle.obd2.specs.declared.Answered.{Answered}
+use Rattle.obd2.specs.Answer.{Accepted}
+use Rattle.obd2.specs.Answer.{Answered}
 use Rattle.obd2.specs.declared.Said.TheVariants.{Taken}
 use Rattle.agreement.specs.Claim.{asks}
 use Rattle.agreement.specs.Claim.{none as none_asked}
@@ -55,13 +54,13 @@ kept k true t Next = refl
 kept k true t (Result o) = refl
 kept k false t c = refl
 
-other : (s : State) (t : ℕ) (c : RoundCall) (m : DongleMessage) → (done_of s (round t c)).said ≡ Taken (Message m) → ⊥
+other : (s : State) (t : ℕ) (c : RoundCall) (m : DongleMessage) → (done_of s (round t c)).said ≡ Taken (Some m) → ⊥
 unfolding done_of round_by
 other s t Begin m e = let z : ◌≡◌ {A = ℕ} 0 1 = cc in omega arith
 other s t Next m e = let z : ◌≡◌ {A = ℕ} 0 1 = cc in omega arith
 other s t (Result o) m e = let z : ◌≡◌ {A = ℕ} 0 1 = cc in omega arith
 
-none_taken : (s : State) (t : ℕ) (c : RoundCall) (m : DongleMessage) → (step s (round t c)).answer ≡ Accepted (Taken (Message m)) → ⊥
+none_taken : (s : State) (t : ℕ) (c : RoundCall) (m : DongleMessage) → (step s (round t c)).answer ≡ Accepted (Taken (Some m)) → ⊥
 unfolding step
 none_taken s t c m f = cases _ (eqb (refusal_of s (round t c)) 0)
     (λ e. other s t c m (let g = rw e at f in cc))
@@ -91,7 +90,7 @@ record Computed (ps : Profiles) (fast slow : List ℕ) (rs : List (List ℕ)) : 
   all_up : all_up_in (read 0 second ps (settled ps)) (happened (there 0 second ps (settled ps)) calls) ≡ true
 
 computed : Computed two (12 ∷ []) (5 ∷ []) ((12 ∷ []) ∷ (12 ∷ 5 ∷ []) ∷ []) × Computed overlays [] (5 ∷ 15 ∷ []) ((5 ∷ []) ∷ (15 ∷ []) ∷ [])
-unfolding rounds_in open_over seen_over start_of start_refusal started startManager register_of no_table through news entry_after swept tidings counts_of priority_of wished_by wish_of joinedWish in_force is_fast speed registered_of told_of empty_of send_all messages pushOut push_all_of push_of empty_line unknown_mode unknown_of many bad_profiles run step refusal_of rows_of link_rows round_rows done_of link_by round_by over_range within_of sum_of counted_of lengths_of total_of first_of some_of take_of applied_of set_of remove_of fit_of swap_out append_of place entries size_of wrap empty_list connect_of linkUp start_link no_ranges startPoller happened nextPid begin_of next_of firstQuery slow_of slow_due issue_of end_of more_of padded keep_of teach_of teach_all learn_of link_after round_after result_of pids_of waiting from
+unfolding rounds_in open_over seen_over start_of start_refusal started startManager register_of no_table through news entry_after swept tidings counts_of priority_of wished_by wish_of joinedWish in_force is_fast speed registered_of told_of empty_of send_all messages pushOut push_all_of push_of empty_line unknown_mode unknown_of bad_profiles run step refusal_of rows_of link_rows round_rows done_of link_by round_by over_range within_of sum_of counted_of lengths_of total_of first_of some_of take_of applied_of set_of remove_of fit_of swap_out append_of place entries size_of wrap empty_list connect_of linkUp start_link no_ranges startPoller happened nextPid begin_of next_of firstQuery slow_of slow_due issue_of end_of more_of padded keep_of teach_of teach_all learn_of link_after round_after result_of pids_of waiting from
 computed = (
   record { opened = refl; over = refl; rounds_are = refl; fast_is = refl; slow_is = refl; settings_are = refl; up = refl; all_up = refl },
   record { opened = refl; over = refl; rounds_are = refl; fast_is = refl; slow_is = refl; settings_are = refl; up = refl; all_up = refl },
@@ -146,5 +145,5 @@ abbrev queried : Answered
 queried = step (run (there 0 second two (settled two)) (begin 4 ∷ [])) (next 5)
 
 pub query_told : values_of queried.answer queried.details ≡ 12 ∷ 0 ∷ []
-unfolding start_of start_refusal started startManager register_of no_table through news entry_after swept tidings counts_of priority_of wished_by wish_of joinedWish in_force is_fast speed registered_of told_of empty_of send_all messages pushOut push_all_of push_of empty_line unknown_mode unknown_of many bad_profiles run step refusal_of rows_of link_rows round_rows done_of link_by round_by over_range within_of sum_of counted_of lengths_of total_of first_of some_of take_of applied_of set_of remove_of fit_of swap_out append_of place entries size_of wrap empty_list connect_of linkUp start_link no_ranges startPoller happened nextPid begin_of next_of firstQuery slow_of slow_due issue_of end_of more_of padded keep_of teach_of teach_all learn_of link_after round_after result_of pids_of waiting from
+unfolding start_of start_refusal started startManager register_of no_table through news entry_after swept tidings counts_of priority_of wished_by wish_of joinedWish in_force is_fast speed registered_of told_of empty_of send_all messages pushOut push_all_of push_of empty_line unknown_mode unknown_of bad_profiles run step refusal_of rows_of link_rows round_rows done_of link_by round_by over_range within_of sum_of counted_of lengths_of total_of first_of some_of take_of applied_of set_of remove_of fit_of swap_out append_of place entries size_of wrap empty_list connect_of linkUp start_link no_ranges startPoller happened nextPid begin_of next_of firstQuery slow_of slow_due issue_of end_of more_of padded keep_of teach_of teach_all learn_of link_after round_after result_of pids_of waiting from
 query_told = refl

@@ -1,5 +1,5 @@
 -- The histories of the witnesses in proofs/Witness: the lists of profiles, the settings and the calls; and what each meets.
-use Rattle.std.specs.Prelude.{Bool, true, false, ◌&&◌, List, [], ◌∷◌, map, ◌≡◌, ℕ, replicate}
+use Rattle.std.specs.Prelude.{None, Bool, true, false, ◌&&◌, List, [], ◌∷◌, map, ◌≡◌, ℕ, replicate}
 use Rattle.config.specs.declared.Profile.{Profile}
 use Rattle.config.specs.declared.Profiles.{Profiles}
 use Rattle.config.specs.declared.Settings.{Settings}
@@ -16,7 +16,7 @@ use Rattle.round_robin.specs.Marks.{open_over}
 use Rattle.promise.specs.Statement.{settling, Ending}
 
 abbrev pub profile : ℕ → ℕ → ℕ → Profile
-profile kind pid priority = record { kind = kind; pid = pid; priority = priority; limited = false; threshold = 0; enabled = true }
+profile kind pid priority = record { kind = kind; pid = pid; priority = priority; threshold = None; enabled = true }
 
 -- PID 12 Fast, PID 5 Slow.
 abbrev pub two : Profiles

@@ -1,13 +1,14 @@
 -- The proof of the claims of `Cut`.
-use Rattle.std.specs.Prelude.{true, false, None, Ok, List, [], ◌∷◌, ◌++◌, map, ◌≡◌, refl, ℕ, zero, suc, ◌+◌, ◌-◌, ◌<◌, ◌≤◌, leb, take}
+use Rattle.std.specs.Prelude.{true, false, None, Ok, List, [], ◌∷◌, ◌++◌, map, ◌≡◌, refl, ℕ, ◌+◌, ◌-◌, ◌<◌, ◌≤◌, leb, take}
 use Rattle.std.proofs.Common.{append_assoc, sym, ◌∙◌, take-append-drop, length-take-le}
 use Rattle.std.proofs.Math.Path.{ap}
 use native.Mathlib.Omega.{arith}
 use Rattle.std.proofs.Math.ListN.{length, drop, length-drop, length-map}
-use Rattle.std.proofs.Math.Seq.{take-take, take-nil, drop-drop}
+use Rattle.std.proofs.Math.Seq.{take-take, drop-drop}
 use borrow.Author.Tests.{leb-true, leb-false, le-leb, lt-leb, le-ltb}
 use Rattle.base.specs.Both.{never}
 use Rattle.base.specs.Choice.{pick, cases}
+use Rattle.std.proofs.lemmas.List.{drop-take}
 use Rattle.capture_read.specs.declared.Record.{Record}
 use Rattle.capture_read.specs.Reading.{field, header_size, seven_bytes, good_header, record_count, data_length, type_in, length_in, size_in, whole, stops, records_from, rest_of, records_of, left_over, row_of, rows_of, end_of, stop_at, found_of, listed_of, Told}
 use Rattle.capture_read.specs.Cases.{read_listed}
@@ -17,11 +18,18 @@ use Rattle.streams.specs.Stream.{joined}
 use Rattle.read_back.specs.Cut.{ends_by, up_to, kept, placed, texts_of, bytes_in, LeftClaim, CutClaim}
 
 -- What is behind the first m of the first n.
-drop_take : (m n : ℕ) (l : List ℕ) → drop m (take n l) ≡ take (n - m) (drop m l)
-drop_take zero n l = let z : n - 0 ≡ n = omega arith in rw z
-drop_take (suc m) zero l = let z : 0 - suc m ≡ 0 = omega arith in rw z
-drop_take (suc m) (suc n) [] = sym (take-nil (suc n - suc m))
-drop_take (suc m) (suc n) (x ∷ xs) = let z : suc n - suc m ≡ n - m = omega arith in rw z (drop_take m n xs)
+drop_take : (m n : ℕ) (l : List ℕ) → m ≤ n → drop m (take n l) ≡ take (n - m) (drop m l)
+drop_take m n l h = let z : m + (n - m) ≡ n = omega arith in rw z at (drop-take m (n - m) l)
+
+-- Two tests that hold of the same numbers.
+same_leb : (a b c d : ℕ) → (a ≤ b → c ≤ d) → (c ≤ d → a ≤ b) → leb a b ≡ leb c d
+same_leb a b c d f g = cases _ (leb a b)
+    (λ e. rw e (sym (le-leb c d (f (leb-true a b e)))))
+    (λ e.
+    let past = leb-false a b e in
+    cases _ (leb c d)
+    (λ t. let back = g (leb-true c d t) in let z : ⊥ = omega arith in absurd z)
+    (λ t. rw (e, t)))
 
 -- The first record of bytes, and of the first n of them.
 module _ (ds : List ℕ) (n : ℕ) where
@@ -70,28 +78,37 @@ module _ (ds : List ℕ) (n : ℕ) where
       record_cut = rw size_cut (take-take (size_in ds) n ds h)
 
       behind_cut : drop (size_in (take n ds)) (take n ds) ≡ take (n - size_in ds) (drop (size_in ds) ds)
-      behind_cut = rw size_cut (drop_take (size_in ds) n ds)
+      behind_cut = rw size_cut (drop_take (size_in ds) n ds h)
 
       fewer_cut : n - size_in ds ≤ length (drop (size_in ds) ds)
       fewer_cut = rw (length-drop (size_in ds) ds) (omega arith)
 
+size_of : (ds : List ℕ) → whole ds ≡ true → length (take (size_in ds) ds) ≡ size_in ds
+size_of ds e = length-take-le (size_in ds) ds (whole_has ds e).within
+
 -- The records one by one, against the place k.
-module _ (k p : ℕ) (bs : List ℕ) (rs : List (ℕ × List ℕ)) (n : ℕ) (l : length bs ≡ n) where
-  up_to_here : p + n ≤ k → up_to k ((p, bs) ∷ rs) ≡ (p, bs) ∷ up_to k rs
+module _ (k p : ℕ) (ds : List ℕ) (e : whole ds ≡ true) where
+  first : ℕ × List ℕ
+  first = (p, take (size_in ds) ds)
+
+  behind : List (ℕ × List ℕ)
+  behind = records_from (p + size_in ds) (drop (size_in ds) ds)
+
+  up_to_here : p + size_in ds ≤ k → up_to k (records_from p ds) ≡ first ∷ up_to k behind
+  unfolding up_to ends_by first behind
+  up_to_here h = rw (records_step p ds e, size_of ds e, le-leb (p + size_in ds) k h)
+
+  up_to_stop : k < p + size_in ds → up_to k (records_from p ds) ≡ []
   unfolding up_to ends_by
-  up_to_here h = rw (l, le-leb (p + n) k h)
+  up_to_stop h = rw (records_step p ds e, size_of ds e, lt-leb (p + size_in ds) k h)
 
-  up_to_stop : k < p + n → up_to k ((p, bs) ∷ rs) ≡ []
-  unfolding up_to ends_by
-  up_to_stop h = rw (l, lt-leb (p + n) k h)
+  kept_here : p + size_in ds ≤ k → kept k (records_from p ds) ≡ first ∷ kept k behind
+  unfolding kept ends_by first behind
+  kept_here h = rw (records_step p ds e, size_of ds e, le-leb (p + size_in ds) k h)
 
-  kept_here : p + n ≤ k → kept k ((p, bs) ∷ rs) ≡ (p, bs) ∷ kept k rs
-  unfolding kept ends_by
-  kept_here h = rw (l, le-leb (p + n) k h)
-
-  kept_next : k < p + n → kept k ((p, bs) ∷ rs) ≡ kept k rs
-  unfolding kept ends_by
-  kept_next h = rw (l, lt-leb (p + n) k h)
+  kept_next : k < p + size_in ds → kept k (records_from p ds) ≡ kept k behind
+  unfolding kept ends_by behind
+  kept_next h = rw (records_step p ds e, size_of ds e, lt-leb (p + size_in ds) k h)
 
 up_to_none : (k : ℕ) → up_to k [] ≡ []
 unfolding up_to
@@ -101,10 +118,8 @@ kept_none : (k : ℕ) → kept k [] ≡ []
 unfolding kept
 kept_none k = refl
 
-size_of : (ds : List ℕ) → whole ds ≡ true → length (take (size_in ds) ds) ≡ size_in ds
-size_of ds e = length-take-le (size_in ds) ds (whole_has ds e).within
-
 records_cut : (ds : List ℕ) (p n : ℕ) → n ≤ length ds → records_from p (take n ds) ≡ up_to (p + n) (records_from p ds)
+unfolding first behind
 records_cut = by_records (λ ds. (p n : ℕ) → n ≤ length ds → records_from p (take n ds) ≡ up_to (p + n) (records_from p ds))
     (λ ds e p n there. rw (records_stop p ds e, records_stop p (take n ds) (partial_take ds n e)) (sym (up_to_none (p + n))))
     (λ ds e h p n there. cases _ (leb (size_in ds) n)
@@ -113,8 +128,7 @@ records_cut = by_records (λ ds. (p n : ℕ) → n ≤ length ds → records_fro
     let z : (p + size_in ds) + (n - size_in ds) ≡ p + n = omega arith in
     let again = rw z at (h (p + size_in ds) (n - size_in ds) (fewer_cut ds n there e fits)) in
     rw (
-      records_step p ds e,
-      up_to_here (p + n) p (take (size_in ds) ds) (records_from (p + size_in ds) (drop (size_in ds) ds)) (size_in ds) (size_of ds e) (omega arith),
+      up_to_here (p + n) p ds e (omega arith),
       records_step p (take n ds) (whole_take ds n there e fits),
       record_cut ds n there e fits,
       behind_cut ds n there e fits,
@@ -123,44 +137,28 @@ records_cut = by_records (λ ds. (p n : ℕ) → n ≤ length ds → records_fro
     ))
     (λ b.
     let past = leb-false (size_in ds) n b in
-    rw (
-      records_step p ds e,
-      up_to_stop (p + n) p (take (size_in ds) ds) (records_from (p + size_in ds) (drop (size_in ds) ds)) (size_in ds) (size_of ds e) (omega arith),
-      records_stop p (take n ds) (cut_partial ds n there e past),
-    )))
+    rw (up_to_stop (p + n) p ds e (omega arith), records_stop p (take n ds) (cut_partial ds n there e past))))
 
 -- Behind a record that does not end by k there is none that does.
 none_kept : (ds : List ℕ) (p k : ℕ) → k < p → kept k (records_from p ds) ≡ []
+unfolding behind
 none_kept = by_records (λ ds. (p k : ℕ) → k < p → kept k (records_from p ds) ≡ [])
     (λ ds e p k past. rw (records_stop p ds e) (kept_none k))
     (λ ds e h p k past.
-    rw (
-      records_step p ds e,
-      kept_next k p (take (size_in ds) ds) (records_from (p + size_in ds) (drop (size_in ds) ds)) (size_in ds) (size_of ds e) (omega arith),
-    ) (h (p + size_in ds) k (omega arith)))
+    rw (kept_next k p ds e (omega arith)) (h (p + size_in ds) k (omega arith)))
 
 up_to_kept : (ds : List ℕ) (p k : ℕ) → up_to k (records_from p ds) ≡ kept k (records_from p ds)
+unfolding first behind
 up_to_kept = by_records (λ ds. (p k : ℕ) → up_to k (records_from p ds) ≡ kept k (records_from p ds))
     (λ ds e p k. rw (records_stop p ds e, kept_none k) (up_to_none k))
     (λ ds e h p k.
-    let behind = records_from (p + size_in ds) (drop (size_in ds) ds) in
-    let first = take (size_in ds) ds in
     cases _ (leb (p + size_in ds) k)
     (λ b.
     let by = leb-true (p + size_in ds) k b in
-    rw (
-      records_step p ds e,
-      up_to_here k p first behind (size_in ds) (size_of ds e) by,
-      kept_here k p first behind (size_in ds) (size_of ds e) by,
-      h (p + size_in ds) k,
-    ))
+    rw (up_to_here k p ds e by, kept_here k p ds e by, h (p + size_in ds) k))
     (λ b.
     let past = leb-false (p + size_in ds) k b in
-    rw (
-      records_step p ds e,
-      up_to_stop k p first behind (size_in ds) (size_of ds e) past,
-      kept_next k p first behind (size_in ds) (size_of ds e) past,
-    ) (sym (none_kept (drop (size_in ds) ds) (p + size_in ds) k past))))
+    rw (up_to_stop k p ds e past, kept_next k p ds e past) (sym (none_kept (drop (size_in ds) ds) (p + size_in ds) k past))))
 
 -- The records, one behind the other, and the bytes left over are all the bytes.
 bytes_add : (ds : List ℕ) (p : ℕ) → bytes_in (records_from p ds) + length (rest_of ds) ≡ length ds
@@ -251,9 +249,7 @@ stops_cut = by_records (λ ds. (n : ℕ) → n ≤ length ds
     ) (cases _ (leb seven_bytes n) (λ d. rw d) (λ d. rw d))))
   where
     shift : (a b n : ℕ) → a ≤ n → leb (a + b + seven_bytes) n ≡ leb (b + seven_bytes) (n - a)
-    shift a b n h = cases _ (leb (b + seven_bytes) (n - a))
-        (λ e. let t = leb-true (b + seven_bytes) (n - a) e in rw e (le-leb (a + b + seven_bytes) n (omega arith)))
-        (λ e. let t = leb-false (b + seven_bytes) (n - a) e in rw e (lt-leb (a + b + seven_bytes) n (omega arith)))
+    shift a b n h = same_leb (a + b + seven_bytes) n (b + seven_bytes) (n - a) (λ t. omega arith) (λ t. omega arith)
 
 -- A capture's header and what is behind it.
 module _ (bs : List ℕ) (long : header_size ≤ length bs) where
@@ -288,7 +284,7 @@ module _ (bs : List ℕ) (k : ℕ) (past : header_size ≤ k) (there : k ≤ len
 
   behind_header : drop header_size (take k bs) ≡ take reach body
   unfolding reach body
-  behind_header = drop_take header_size k bs
+  behind_header = drop_take header_size k bs past
 
   reach_there : reach ≤ length body
   unfolding reach body
@@ -357,9 +353,7 @@ module _ (bs : List ℕ) (k : ℕ) (past : header_size ≤ k) (there : k ≤ len
   same_test =
       let w = whole_end in
       let z = reach_is in
-      cases _ (leb (end_of bs + seven_bytes) k)
-      (λ e. let t = leb-true (end_of bs + seven_bytes) k e in rw e (sym (le-leb (length body - length (rest_of body) + seven_bytes) reach (omega arith))))
-      (λ e. let t = leb-false (end_of bs + seven_bytes) k e in rw e (sym (lt-leb (length body - length (rest_of body) + seven_bytes) reach (omega arith))))
+      same_leb (end_of bs + seven_bytes) k (length body - length (rest_of body) + seven_bytes) reach (λ t. omega arith) (λ t. omega arith)
 
   cut_stops : stops (left_over (take k bs)) ≡ pick (leb (end_of bs + seven_bytes) k) (stops (left_over bs)) false
   unfolding left_over body

@@ -111,83 +111,46 @@ record Left (r : Recorder) (buf : List ℕ) (c : RecordCall) : Type 0 where
   records_is : (recorder_then r buf c).records ≡ r.records
   buffer_is : buffer_then r buf c ≡ buf
 
+-- The one or the other, by what the call answers.
+data Went (r : Recorder) (buf : List ℕ) (c : RecordCall) : Type 0 where
+  wrote : is_written (answer_of r buf c) ≡ true → Put r buf c → Went r buf c
+  aside : is_written (answer_of r buf c) ≡ false → Left r buf c → Went r buf c
+
 module _ (r : Recorder) (buf : List ℕ) (c : RecordCall) where
-  module _ (a : ltb 3 c.kind ≡ true) where
-    unknown_result : recorded_of r buf c.kind c.bytes ≡ appended r (Err UnknownKind)
-    unfolding recorded_of
-    unknown_result = rw a
-
-    unknown_buffer : buffer_then r buf c ≡ buf
-    unfolding buffer_of
-    unknown_buffer = rw a
-
-  module _ (a : ltb 3 c.kind ≡ false) where
-    module _ (b : ltb 65535 (length c.bytes) ≡ true) where
-      long_result : recorded_of r buf c.kind c.bytes ≡ appended r (Err TooLong)
-      unfolding recorded_of
-      long_result = rw (a, b)
-
-      long_buffer : buffer_then r buf c ≡ buf
-      unfolding buffer_of
-      long_buffer = rw (a, b)
-
-    module _ (b : ltb 65535 (length c.bytes) ≡ false) where
-      module _ (f : fits_in r (length buf) (length c.bytes) ≡ true) where
-        fit_result : recorded_of r buf c.kind c.bytes ≡ appended (grown r (length c.bytes)) (Ok Written)
-        unfolding recorded_of
-        fit_result = rw (a, b, f)
-
-        fit_buffer : buffer_then r buf c ≡ over buf r.fill (text_of c)
-        unfolding buffer_of
-        fit_buffer = rw (a, b, f)
-
-      module _ (f : fits_in r (length buf) (length c.bytes) ≡ false) where
-        full_result : recorded_of r buf c.kind c.bytes ≡ appended (marked r) (Ok Overflow)
-        unfolding recorded_of
-        full_result = rw (a, b, f)
-
-        full_buffer : buffer_then r buf c ≡ buf
-        unfolding buffer_of
-        full_buffer = rw (a, b, f)
-
-  answer_by : (x : Appended) → recorded_of r buf c.kind c.bytes ≡ x → is_written (answer_of r buf c) ≡ is_written x.outcome
-  answer_by x e = ap (λ (y : Appended). is_written y.outcome) e
-
-  put : is_written (answer_of r buf c) ≡ true → Put r buf c
-  unfolding is_written
-  put e = cases _ (ltb 3 c.kind)
-      (λ a. never _ e (answer_by (appended r (Err UnknownKind)) (unknown_result a)))
-      (λ a. cases _ (ltb 65535 (length c.bytes))
-      (λ b. never _ e (answer_by (appended r (Err TooLong)) (long_result a b)))
-      (λ b. cases _ (fits_in r (length buf) (length c.bytes))
-      (λ f.
-      record {
-        known = ltb-false 3 c.kind a;
-        short = ltb-false 65535 (length c.bytes) b;
-        room = fits_room r (length buf) (length c.bytes) f;
-        recorder_is = ap (λ (x : Appended). x.recorder) (fit_result a b f);
-        buffer_is = fit_buffer a b f;
-      })
-      (λ f. never _ e (answer_by (appended (marked r) (Ok Overflow)) (full_result a b f)))))
-
-  left_by : (x : Appended) → recorded_of r buf c.kind c.bytes ≡ x → x.recorder.fill ≡ r.fill → x.recorder.records ≡ r.records
-      → buffer_then r buf c ≡ buf → Left r buf c
-  left_by x e f n b =
-      record {
+  went_aside : (x : Appended) → recorded_of r buf c.kind c.bytes ≡ x → buffer_then r buf c ≡ buf → x.recorder.fill ≡ r.fill
+      → x.recorder.records ≡ r.records → is_written x.outcome ≡ false → Went r buf c
+  went_aside x e b f n o =
+      aside (ap (λ (y : Appended). is_written y.outcome) e ∙ o)
+      (record {
         fill_is = ap (λ (y : Appended). y.recorder.fill) e ∙ f;
         records_is = ap (λ (y : Appended). y.recorder.records) e ∙ n;
         buffer_is = b;
-      }
+      })
+
+  went : Went r buf c
+  unfolding recorded_of buffer_of is_written
+  went = cases _ (ltb 3 c.kind)
+      (λ a. went_aside (appended r (Err UnknownKind)) (rw a) (rw a) refl refl refl)
+      (λ a. cases _ (ltb 65535 (length c.bytes))
+      (λ b. went_aside (appended r (Err TooLong)) (rw (a, b)) (rw (a, b)) refl refl refl)
+      (λ b. cases _ (fits_in r (length buf) (length c.bytes))
+      (λ f.
+      let e : recorded_of r buf c.kind c.bytes ≡ appended (grown r (length c.bytes)) (Ok Written) = rw (a, b, f) in
+      wrote (ap (λ (x : Appended). is_written x.outcome) e)
+      (record {
+        known = ltb-false 3 c.kind a;
+        short = ltb-false 65535 (length c.bytes) b;
+        room = fits_room r (length buf) (length c.bytes) f;
+        recorder_is = ap (λ (x : Appended). x.recorder) e;
+        buffer_is = rw (a, b, f);
+      }))
+      (λ f. went_aside (appended (marked r) (Ok Overflow)) (rw (a, b, f)) (rw (a, b, f)) refl refl refl)))
+
+  put : is_written (answer_of r buf c) ≡ true → Put r buf c
+  put e = elim went [ wrote i p ↦ p | aside i l ↦ never _ e i ]
 
   left : is_written (answer_of r buf c) ≡ false → Left r buf c
-  unfolding is_written
-  left e = cases _ (ltb 3 c.kind)
-      (λ a. left_by (appended r (Err UnknownKind)) (unknown_result a) refl refl (unknown_buffer a))
-      (λ a. cases _ (ltb 65535 (length c.bytes))
-      (λ b. left_by (appended r (Err TooLong)) (long_result a b) refl refl (long_buffer a b))
-      (λ b. cases _ (fits_in r (length buf) (length c.bytes))
-      (λ f. never _ (answer_by (appended (grown r (length c.bytes)) (Ok Written)) (fit_result a b f)) e)
-      (λ f. left_by (appended (marked r) (Ok Overflow)) (full_result a b f) refl refl (full_buffer a b f))))
+  left e = elim went [ wrote i p ↦ never _ i e | aside i l ↦ l ]
 
   written_here : (cs : List RecordCall) → is_written (answer_of r buf c) ≡ true
       → written_in r buf (c ∷ cs) ≡ c ∷ written_in (recorder_then r buf c) (buffer_then r buf c) cs

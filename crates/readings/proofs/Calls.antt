@@ -1,13 +1,12 @@
 -- What every call makes of the desk and of the connection: a deed by its answer.
-use Rattle.std.specs.Prelude.{Bool, true, ◌≡◌, ℕ, ◌≤◌, eqb, length}
+use Rattle.std.specs.Prelude.{None, Option, Some, Bool, true, ◌≡◌, ℕ, ◌≤◌, eqb, length}
 use Rattle.std.proofs.Math.Path.{refl}
 use Rattle.std.proofs.Common.{ap, arith, eqb-true}
 use Rattle.base.specs.Choice.{cases}
 use Rattle.cache.specs.Rules.{ask_refusal}
 use Rattle.config.specs.declared.Settings.{Settings}
+use Rattle.control.specs.declared.DongleMessage.{DongleMessage}
 use Rattle.control_line.specs.Ring.{take_of}
-use Rattle.control_line.specs.declared.Taken.{Taken}
-use Rattle.control_line.specs.declared.Taken.TheVariants.{Message, Nothing}
 use Rattle.delivery.specs.Rules.{response_refusal}
 use Rattle.desk.specs.Sound.{Sound}
 use Rattle.desk.specs.Rules.{register_refusal}
@@ -34,9 +33,9 @@ use Rattle.readings.specs.Desk.{kept, registers, leaves, asks, collects, gives_u
 use Rattle.readings.specs.Seen.{Makes}
 
 -- The connection after a message is taken, after either outcome of a connect, and after a begin.
-taken_link : (p : Poller) (x : Taken) → (listing p x).link.connected ≡ p.link.connected
-taken_link p Nothing = refl
-taken_link p (Message m) = refl
+taken_link : (p : Poller) (x : Option DongleMessage) → (listing p x).link.connected ≡ p.link.connected
+taken_link p None = refl
+taken_link p (Some m) = refl
 
 connect_link : (p : Poller) (x : Session) → (connect_of p x).poller.link.connected ≡ true
 unfolding connect_of

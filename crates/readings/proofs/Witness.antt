@@ -25,7 +25,7 @@ use Rattle.pid_table.specs.Entry.{speed}
 use Rattle.pid_table.specs.Entry.{registered_of as entryRegistered}
 use Rattle.poller.specs.Calls.{connect_of as connectPoller}
 use Rattle.poller.specs.State.{start_of as startPoller}
-use Rattle.profile_check.specs.Check.{unknown_mode, many, bad_profiles}
+use Rattle.profile_check.specs.Check.{unknown_mode, bad_profiles}
 use Rattle.reply.specs.Rules.{max_pids, empty_reply, no_reply, absent_range, no_range, sum_of, lengths_of, total_of, within_of, size_of, joined_of, filled_of}
 use Rattle.waits.specs.Rules.{collected_of}
 use Rattle.obd2.specs.Call.{Call, ask, collect, response, FitResponse, Calls, none, more}
@@ -37,7 +37,7 @@ use Rattle.readings.specs.Claim.{nothing, delivery, Figures, read_from, read}
 use Rattle.readings.specs.Witness.{reading, revs, session, command, area, box, opening, waited, collecting, asking, calls, AskedFor, HandedTo, Computed, BuiltReply, BuiltSession, Built, Part, Twice}
 
 pub computed : Computed
-unfolding step refusal_of rows_of done_of manager_by cache_by link_by start_of start_refusal unknown_mode many bad_profiles in_force first_of started startManager no_table news entry_after tidings told_of wish_of speed entryRegistered empty_of send_all messages empty_line free_of push_all_of start_desk newcomer startPoller start_link manager_rows crowded managed handle_of after sent finish_of due_of place_of entered put_client happened lent_by filled_by link_rows some_of no_ranges over_range connectPoller linkUp cache_rows registered registered_of step_of command_step command_of stripped same_text range_texts index_of pid_of between upper hex_value busy wait_of client_of find_of fresh fresh_in stored handed_of answer_of after_ask taken_of waiting_of idled_of unfit rising_from over within_of total_of lengths_of sum_of size_of joined_of filled_of response_of response_refusal turns_of turn_of deliver_of marked_of collected_of run read_from arrives_in newest_in Rattle.manager.specs.Calls.register_of
+unfolding step refusal_of rows_of done_of manager_by cache_by link_by start_of start_refusal unknown_mode bad_profiles in_force first_of started startManager no_table news entry_after tidings told_of wish_of speed entryRegistered empty_of send_all messages empty_line free_of push_all_of start_desk newcomer startPoller start_link manager_rows crowded managed handle_of after sent finish_of due_of place_of entered put_client happened lent_by filled_by link_rows some_of no_ranges over_range connectPoller linkUp cache_rows registered registered_of step_of command_step command_of stripped same_text range_texts index_of pid_of between upper hex_value busy wait_of client_of find_of fresh fresh_in stored handed_of answer_of after_ask taken_of waiting_of idled_of unfit rising_from over within_of total_of lengths_of sum_of size_of joined_of filled_of response_of response_refusal turns_of turn_of deliver_of marked_of collected_of run read_from arrives_in newest_in Rattle.manager.specs.Calls.register_of
 computed =
     record {
       answers = refl;

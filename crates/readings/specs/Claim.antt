@@ -1,6 +1,8 @@
 -- Demand 3, "Readings": what is due to each client and what it is handed, over every list of calls. All of it is read
 -- from the events alone: the calls with their arguments, their answers, and the lent areas. Statements only.
-use Rattle.std.specs.Prelude.{Bool, true, false, ◌&&◌, ◌||◌, not, List, [], ◌∷◌, ◌++◌, ◌≡◌, ℕ, suc, ◌+◌, ◌-◌, ◌<◌, ◌≤◌, eqb, get_or, drop}
+use Rattle.std.specs.Prelude.{is_some}
+use Rattle.clients.specs.Rules.{pid_in, since_in}
+use Rattle.std.specs.Prelude.{Option, Bool, true, false, ◌&&◌, ◌||◌, not, List, [], ◌∷◌, ◌++◌, ◌≡◌, ℕ, suc, ◌+◌, ◌-◌, ◌<◌, ◌≤◌, eqb, get_or, drop}
 use Rattle.base.specs.Choice.{pick}
 use Rattle.cache.specs.Rules.{hands_out, wait_after}
 use Rattle.cache.specs.declared.Answer.{Answer as Asking}
@@ -20,8 +22,8 @@ use Rattle.obd2.specs.Answers.{said_values}
 use Rattle.obd2.specs.Call.{Call, manager, cache, settings, take_control, link, round, Register, Leave, Respond, Changed, Waiting, Consumed, Tick, Ask, Collect, GiveUp, Connect, Fail, Check, Begin, Next, Result, register, ask, collect, Calls}
 use Rattle.obd2.specs.History.{Event, start_of, happened, accepted}
 use Rattle.obd2.specs.State.{no_details}
-use Rattle.obd2.specs.declared.Answer.{Answer}
-use Rattle.obd2.specs.declared.Answer.TheVariants.{Refused, Accepted}
+use Rattle.obd2.specs.Answer.{Answer}
+use Rattle.obd2.specs.Answer.{Refused, Accepted}
 use Rattle.obd2.specs.declared.Said.{Said}
 use Rattle.obd2.specs.declared.Said.TheVariants.{Started, Client, Done, Asked, Collected, GivenUp, Taken, Connecting, Check as Checked, Step}
 
@@ -32,7 +34,7 @@ pub record Deed : Type 0 where
   pub leaves : ℕ → Bool
   pub gives : ℕ → ℕ
   -- c's wait after it
-  pub waits : ℕ → Wait → Wait
+  pub waits : ℕ → Option Wait → Option Wait
   -- "A reading is handed out by an ask naming Consumed or an accepted collect": c is handed one of p
   pub hands : ℕ → ℕ → Bool
   -- a reply for p comes, and which
@@ -62,7 +64,7 @@ abbrev pub leaving : ℕ → Deed
 leaving c = record { enters = none; leaves = eqb c; gives = same; waits = λ e w. pick (eqb c e) idle w; hands = λ e. none; brings = none; reply = λ p. no_reply; links = same }
 
 -- Client c is served: f is what becomes of its wait, and it is handed a reading of the PIDs of g.
-abbrev pub serving : ℕ → (Wait → Wait) → (ℕ → Bool) → Deed
+abbrev pub serving : ℕ → (Option Wait → Option Wait) → (ℕ → Bool) → Deed
 serving c f g = record { enters = none; leaves = none; gives = same; waits = λ e w. pick (eqb e c) (f w) w; hands = λ e p. eqb e c && g p; brings = none; reply = λ p. no_reply; links = same }
 
 abbrev pub bringing : Response → Deed
@@ -131,7 +133,7 @@ pub record Figures : Type 0 where
   -- how many client numbers were given: "Numbers rise from 1 and are never given again"
   pub given : ℕ
   -- what c waits for, and since when: by its last ask that named Waiting, with no collect, give up or leave since
-  pub wait : ℕ → Wait
+  pub wait : ℕ → Option Wait
   -- what is due to c of PID p: the newest delivery since c registered or, if later, was last handed one for it
   pub pending : ℕ → ℕ → Due
   -- the newest delivery of p, whoever was handed it
@@ -187,10 +189,10 @@ pub record Delivered (c p : ℕ) (v : Figures) : Type 0 where
 
 -- A collect hands out what is due of the PID that the client waits for, and names the wait since the ask.
 pub record Collects (v : Figures) (t c : ℕ) (area : List ℕ) (e : Event) : Type 0 where
-  pub waited : (v.wait c).waiting ≡ true
-  pub since_then : (v.wait c).since ≤ t
-  pub due : Delivered c (v.wait c).pid v
-  pub named : e.answer ≡ Accepted (Collected (v.wait c).pid (t - (v.wait c).since))
+  pub waited : is_some (v.wait c) ≡ true
+  pub since_then : since_in (v.wait c) ≤ t
+  pub due : Delivered c (pid_in (v.wait c)) v
+  pub named : e.answer ≡ Accepted (Collected (pid_in (v.wait c)) (t - since_in (v.wait c)))
   pub hands : Handed due.reply area e
 
 -- An event, and what is read off the history before it.

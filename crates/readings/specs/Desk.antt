@@ -1,5 +1,6 @@
 -- What the calls of the manager and of the clients make of the desk.
-use Rattle.std.specs.Prelude.{Bool, true, ◌&&◌, ◌||◌, not, List, ◌≡◌, refl, ℕ, zero, suc, ◌+◌, ◌≤◌, eqb}
+use Rattle.clients.specs.Rules.{since_in}
+use Rattle.std.specs.Prelude.{Option, Bool, true, ◌&&◌, ◌||◌, not, List, ◌≡◌, refl, ℕ, zero, suc, ◌+◌, ◌≤◌, eqb}
 use Rattle.std.proofs.Math.Bool.{false, and-true, and_comm, or_comm}
 use Rattle.std.proofs.Common.{sym, ◌∙◌, arith}
 use borrow.Author.Tests.{eqb-true}
@@ -61,11 +62,11 @@ response_given d ps r = cases _ (eqb (response_refusal r) 0)
     (λ e. rw e)
 
 -- Of two waits that began by now, each did; and so did the wait after an ask's answer.
-picked : (t : ℕ) (b : Bool) (x y : Wait) → x.since ≤ t → y.since ≤ t → (pick b x y).since ≤ t
+picked : (t : ℕ) (b : Bool) (x y : Option Wait) → since_in x ≤ t → since_in y ≤ t → since_in (pick b x y) ≤ t
 picked t true x y f g = f
 picked t false x y f g = g
 
-asked_early : (t : ℕ) (a : Asking) (w : Wait) → w.since ≤ t → (wait_after t a w).since ≤ t
+asked_early : (t : ℕ) (a : Asking) (w : Option Wait) → since_in w ≤ t → since_in (wait_after t a w) ≤ t
 asked_early t Unable w h = h
 asked_early t NoData w h = h
 asked_early t Unknown w h = h
@@ -125,9 +126,9 @@ module _ {d : Desk} {on : Bool} (k : Sound d) (t : ℕ) where
       }
 
   -- Client c is served: desk n.
-  served : (c : ℕ) (f : Wait → Wait) (g : ℕ → Bool) (n : Desk)
+  served : (c : ℕ) (f : Option Wait → Option Wait) (g : ℕ → Bool) (n : Desk)
       → After n (registered d) (λ e p. fresh d e p && not (eqb e c && g p)) (λ e. pick (eqb e c) (f (wait_of d e)) (wait_of d e)) (stored d)
-      → ((p : ℕ) → g p ≡ true → fresh d c p ≡ true) → n.given ≡ d.given → ((w : Wait) → w.since ≤ t → (f w).since ≤ t)
+      → ((p : ℕ) → g p ≡ true → fresh d c p ≡ true) → n.given ≡ d.given → ((w : Option Wait) → since_in w ≤ t → since_in (f w) ≤ t)
       → Makes d on (serving c f g) t n on
   served c f g n a new same early =
       record {

@@ -1,5 +1,6 @@
 -- What an ask and a collect hand out, in terms of what is read of the history.
-use Rattle.std.specs.Prelude.{true, List, ◌++◌, ◌≡◌, ℕ, ◌+◌, ◌-◌, ◌≤◌, length, drop}
+use Rattle.clients.specs.Rules.{pid_in, since_in}
+use Rattle.std.specs.Prelude.{Option, true, List, ◌++◌, ◌≡◌, ℕ, ◌+◌, ◌-◌, ◌≤◌, length, drop}
 use Rattle.std.proofs.Math.Path.{refl, ap}
 use Rattle.std.proofs.Common.{sym, ◌∙◌, arith, eq-eqb}
 use Rattle.base.specs.Both.{both_left}
@@ -27,7 +28,7 @@ use Rattle.obd2.specs.Keeps.{step_done, accepted_free}
 use Rattle.obd2.specs.Refusals.{cache_rows, rows_of, row_refusal, refusal_of}
 use Rattle.obd2.specs.State.{lines_of}
 use Rattle.obd2.specs.declared.State.{State}
-use Rattle.obd2.specs.declared.Answer.TheVariants.{Accepted}
+use Rattle.obd2.specs.Answer.{Accepted}
 use Rattle.obd2.specs.declared.Said.TheVariants.{Client, Asked, Collected}
 use Rattle.readings.specs.Claim.{deed, Due, nothing, delivery, Figures, Handed, AnsweredBy, CacheAsk, Collects, Delivered, Right}
 use Rattle.readings.specs.Places.{Placed}
@@ -125,7 +126,7 @@ module _ (s : State) (v : Figures) (k : SeenBox s v) (m : Placed v) where
 
   -- A collect.
   module _ (t c : ℕ) (area : List ℕ) (e : refusal_of s (collect t c area) ≡ 0) where
-    abbrev wait : Wait
+    abbrev wait : Option Wait
     wait = v.wait c
 
     collect_free : collect_refusal s.desk c (length area) ≡ 0
@@ -138,24 +139,24 @@ module _ (s : State) (v : Figures) (k : SeenBox s v) (m : Placed v) where
     wait_is : wait_of s.desk c ≡ wait
     wait_is = k.is_wait c
 
-    pid_is : awaited s.desk c ≡ wait.pid
-    pid_is = ap (λ (w : Wait). w.pid) wait_is
+    pid_is : awaited s.desk c ≡ (pid_in wait)
+    pid_is = ap pid_in wait_is
 
-    collect_due : Delivered c wait.pid v
-    collect_due = fresh_delivered c wait.pid (rw pid_is at found.was_fresh)
+    collect_due : Delivered c (pid_in wait) v
+    collect_due = fresh_delivered c (pid_in wait) (rw pid_is at found.was_fresh)
 
     collect_reply : awaited_reply s.desk c ≡ collect_due.reply
-    collect_reply = rw pid_is (k.is_kept c wait.pid collect_due.place collect_due.reply collect_due.due)
+    collect_reply = rw pid_is (k.is_kept c (pid_in wait) collect_due.place collect_due.reply collect_due.due)
 
     collect_handed : Handed (awaited_reply s.desk c) area (event_of s (collect t c area))
     unfolding done_of cache_by lent_by filled_by collect_area collected_of
     collect_handed = handed (collect t c area) e _ area (rw e (rw collect_free at (collect_area_law s.desk t c area collect_free))) refl
 
-    collect_answer : (step s (collect t c area)).answer ≡ Accepted (Collected wait.pid (t - wait.since))
+    collect_answer : (step s (collect t c area)).answer ≡ Accepted (Collected (pid_in wait) (t - since_in wait))
     unfolding done_of cache_by collected_of
     collect_answer = rw (step_done s (collect t c area) e, wait_is)
 
-    collect_since : wait.since ≤ t
+    collect_since : since_in wait ≤ t
     collect_since =
         let a = rw wait_is at (k.is_past c) in
         let b = (accepted_time s (collect t c area) e).0 in

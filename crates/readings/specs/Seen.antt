@@ -1,5 +1,6 @@
 -- The box and what is read of its history, side by side: what ties them, and how a deed moves both.
-use Rattle.std.specs.Prelude.{Bool, true, false, ◌&&◌, ◌||◌, not, ◌≡◌, refl, ℕ, ◌≤◌}
+use Rattle.clients.specs.Rules.{since_in}
+use Rattle.std.specs.Prelude.{Option, Bool, true, false, ◌&&◌, ◌||◌, not, ◌≡◌, refl, ℕ, ◌≤◌}
 use Rattle.std.proofs.Common.{ap, sym, ◌∙◌, arith}
 use Rattle.base.specs.Choice.{pick, false_true}
 use Rattle.clients.specs.declared.Wait.{Wait}
@@ -25,7 +26,7 @@ pub record Seen (d : Desk) (on : Bool) (now : ℕ) (v : Figures) : Type 0 where
   pub is_up : on ≡ v.connected
   pub is_given : d.given ≡ v.given
   -- no wait began later than now
-  pub is_past : (c : ℕ) → (wait_of d c).since ≤ now
+  pub is_past : (c : ℕ) → since_in (wait_of d c) ≤ now
 
 abbrev pub SeenBox : State → Figures → Type 0
 SeenBox s v = Seen s.desk s.poller.link.connected s.time v
@@ -42,7 +43,7 @@ pub record Makes (d : Desk) (on : Bool) (x : Deed) (t : ℕ) (n : Desk) (up : Bo
   pub marks : (c p : ℕ) → registered n c ≡ true → new c p ≡ (not (x.enters c || x.hands c p) && (x.brings p || fresh d c p))
   pub handed : (c p : ℕ) → x.hands c p ≡ true → fresh d c p ≡ true
   pub numbers : n.given ≡ x.gives d.given
-  pub early : (c : ℕ) (w : Wait) → w.since ≤ t → (x.waits c w).since ≤ t
+  pub early : (c : ℕ) (w : Option Wait) → since_in w ≤ t → since_in (x.waits c w) ≤ t
   pub line : up ≡ x.links on
 
 -- Who neither enters nor is handed a reading, and is here, was.

@@ -16,7 +16,7 @@ use Rattle.reply.specs.declared.Response.{Response}
 use Rattle.obd2.specs.Call.{Call, register, ask, collect, response, connect}
 use Rattle.obd2.specs.History.{Event, accepted, start_of, event_of, run, happened}
 use Rattle.obd2.specs.declared.State.{State}
-use Rattle.obd2.specs.declared.Answer.TheVariants.{Accepted}
+use Rattle.obd2.specs.Answer.{Accepted}
 use Rattle.obd2.specs.declared.Said.TheVariants as said
 use Rattle.readings.specs.Claim.{deed, Due, nothing, delivery, Figures, read, CacheAsk}
 

@@ -1,7 +1,7 @@
 // The refusals of document 01's numbered table, as an enum.
 #![tactic(auto)]
 
-ghost use Rattle.std.specs.Prelude.{◌≡◌};
+ghost use Rattle.std.specs.Prelude.{◌≡◌, ◌≢◌, ◌≤◌};
 ghost use Rattle.refusal.specs.Number.{number_of};
 
 // Why a call is refused: a variant for each number, in the table's order. 16 comes from document 02's A3.
@@ -63,6 +63,32 @@ impl Refusal {
             Refusal::ShortArea => 14,
             Refusal::LineFull => 15,
             Refusal::BadHeader => 16,
+        }
+    }
+
+    // The refusal of a number.
+    pub fn numbered(number: u8) -> Refusal
+        requires above_zero { number ≢ 0 }
+        requires listed { number ≤ 16 }
+        ensures { number_of result ≡ number }
+    {
+        match number {
+            1 => Refusal::BadTime,
+            2 => Refusal::UnknownKind,
+            3 => Refusal::BadResponse,
+            4 => Refusal::BadConsumed,
+            5 => Refusal::LongCapture,
+            6 => Refusal::NumbersGiven,
+            7 => Refusal::ClientsFull,
+            8 => Refusal::UnknownClient,
+            9 => Refusal::AlreadyWaiting,
+            10 => Refusal::NothingWaiting,
+            11 => Refusal::NoReply,
+            12 => Refusal::RoundOpen,
+            13 => Refusal::OutOfTurn,
+            14 => Refusal::ShortArea,
+            15 => Refusal::LineFull,
+            _ => Refusal::BadHeader,
         }
     }
 }

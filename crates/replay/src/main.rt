@@ -14,6 +14,7 @@ use poller::rest::{KNOWN, ORDER, POLLED};
 use reply::rows::ROW;
 use std::io;
 use std::io::{Read, Write};
+use writing::Text;
 
 // The longest line that is taken, the largest lent area, and the room for answers that wait to be written.
 const LONGEST: usize = 8191;
@@ -48,7 +49,7 @@ fn filled(input: &mut [u8], n: usize) -> usize
 }
 
 // Reads a part of the input and answers it.
-fn read_part<R: Read, W: Write>(
+fn read_part<const N: usize, R: Read, W: Write>(
     replies: &mut [[u8; ROW]; 256],
     marks: &mut [[bool; 256]; PLACES],
     table: &mut [[u64; 8]; 256],
@@ -63,7 +64,7 @@ fn read_part<R: Read, W: Write>(
     line: &mut [u8],
     bytes: &mut [u8],
     area: &mut [u8],
-    out: &mut [u8],
+    out: &mut Text<N>,
     reader: &mut R,
     writer: &mut W,
 ) -> io::Result<Turn>
@@ -97,9 +98,8 @@ fn read_part<R: Read, W: Write>(
     })
 }
 
-// A proved loop has to end, and nothing says that an input does: the turns are counted down from a number
-// that no run uses up.
-fn run<R: Read, W: Write>(
+// A proved loop has to end, and nothing says that an input does: there are more turns than any run uses up.
+fn run<const N: usize, R: Read, W: Write>(
     replies: &mut [[u8; ROW]; 256],
     marks: &mut [[bool; 256]; PLACES],
     table: &mut [[u64; 8]; 256],
@@ -113,7 +113,7 @@ fn run<R: Read, W: Write>(
     line: &mut [u8],
     bytes: &mut [u8],
     area: &mut [u8],
-    out: &mut [u8],
+    out: &mut Text<N>,
     reader: &mut R,
     writer: &mut W,
 ) -> io::Result<()>
@@ -121,8 +121,7 @@ fn run<R: Read, W: Write>(
     requires rates_len { length rates.old ≡ 256 }
 {
     let mut playing = playing::first(replies, marks, table, slots, polled, known, order, ranges);
-    let mut turns = u64::MAX;
-    while turns > 0 {
+    for _ in 0..u64::MAX {
         let turn = read_part(
             replies, marks, table, slots, polled, known, order, ranges, pids, rates, playing, line,
             bytes, area, out, reader, writer,
@@ -131,7 +130,6 @@ fn run<R: Read, W: Write>(
         if !turn.more {
             return Ok(());
         }
-        turns -= 1;
     }
     Ok(())
 }
@@ -142,7 +140,7 @@ fn main(rt: HostRuntime) -> io::Result<()> {
     let mut line = [0u8; LONGEST];
     let mut bytes = [0u8; LONGEST];
     let mut area = [0u8; AREA];
-    let mut out = [0u8; ANSWERS];
+    let mut out: Text<ANSWERS> = Text::new();
     let mut replies = reply::rows::blank();
     let mut marks = clients::seats::blank();
     let mut table = [[0u64; 8]; 256];

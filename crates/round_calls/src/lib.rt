@@ -14,6 +14,7 @@ use obd2::rest::{Core, Told};
 use obd2::{Said, telling};
 use poller::Round;
 use poller::rest::{KNOWN, ORDER, POLLED};
+use refusal::Refusal;
 use rounds::Outcome;
 
 // A round is begun, with the settings of now.
@@ -33,7 +34,7 @@ pub fn begin(
     let poller = core.poller;
     let round = poller.round;
     if poller::open(round) {
-        return telling::refuse(core, 12);
+        return telling::refuse(core, Refusal::RoundOpen);
     }
     let settings = core.settings;
     let opened = poller::calls::begin(polled, known, order, poller, settings);
@@ -65,7 +66,7 @@ pub fn next(
     let poller = core.poller;
     let round = poller.round;
     if out_of_turn(round) {
-        return telling::refuse(core, 13);
+        return telling::refuse(core, Refusal::OutOfTurn);
     }
     let stepped = rounds::next::next(polled, known, order, poller, time);
     let moved = stepped.core;
@@ -95,7 +96,7 @@ pub fn result(
     let poller = core.poller;
     let round = poller.round;
     if !poller::due(round) {
-        return telling::refuse(core, 13);
+        return telling::refuse(core, Refusal::OutOfTurn);
     }
     let taught = rounds::result::result(polled, known, ranges, poller, time, outcome);
     core.poller = taught;

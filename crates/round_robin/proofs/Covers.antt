@@ -13,7 +13,7 @@ use Rattle.base.specs.Times.{times, times_append}
 use Rattle.config.specs.declared.Settings.{Settings}
 use Rattle.pid_list.specs.Members.{Sound, sound_length, next_entries}
 use Rattle.pid_list.specs.Robin.{picks, next_some, next_sound, each_once}
-use Rattle.pid_list.specs.Rules.{entries, next_of}
+use Rattle.pid_list.specs.Rules.{entries, found as picked, pid_of, next_of}
 use Rattle.pid_list.specs.declared.PidList.{PidList}
 use Rattle.round_robin.specs.Marks.{joined}
 use Rattle.round_robin.proofs.Machine.{wanted, stretch, firstly, counted, passed, unsent, failed, Tests, none, more}
@@ -26,7 +26,7 @@ pub record Live (l : PidList) : Type 0 where
 pub next_live : (l : PidList) → Live l → Live (next_of l).list
 next_live l v = record { sound = next_sound l v.sound; some = rw (next_some l v.sound v.some) v.some }
 
-found : (l : PidList) → Live l → (next_of l).found ≡ true
+found : (l : PidList) → Live l → picked (next_of l) ≡ true
 found l v = rw (next_some l v.sound v.some)
 
 -- From another place, the list is the same but for the index.
@@ -57,7 +57,7 @@ module _ (st : Settings) where
   one_more false n h k = omega (arith, more_is n)
 
   -- So many rounds ask at least what so many picks of the fast list are.
-  fast_picks : (q n : ℕ) (f : PidList) {l : PidList} {r : ℕ} {rs : List (List ℕ)} → Tests st false ((next_of f).pid ∷ []) (next_of f).list l r rs → n ≤ length rs
+  fast_picks : (q n : ℕ) (f : PidList) {l : PidList} {r : ℕ} {rs : List (List ℕ)} → Tests st false (pid_of (next_of f) ∷ []) (next_of f).list l r rs → n ≤ length rs
       → times q (picks n f) ≤ times q (joined (take n rs))
   unfolding picks joined times
   fast_picks q zero f t h = omega arith
@@ -77,11 +77,11 @@ module _ (st : Settings) (nofast : Bool) (q : ℕ) (ratio-mode : st.mode ≡ 0 �
   reach j m n zero l v t a b c = absurd (omega arith)
   reach j m n (suc k) l v none a b c = absurd (omega arith)
   reach zero m n (suc k) l v (more {xs = xs} {rs = rs} (passed d e) t) a b c =
-      omega (arith, times_append q (xs ++ ((next_of l).pid ∷ [])) (joined (take k rs)), times_append q xs ((next_of l).pid ∷ []))
+      omega (arith, times_append q (xs ++ (pid_of (next_of l) ∷ [])) (joined (take k rs)), times_append q xs (pid_of (next_of l) ∷ []))
   reach (suc j) m n (suc k) l v (more {xs = xs} {rs = rs} (passed d e) t) a b c =
       let s = suc-mul j each in
       let i = reach j (each - 1) (counted nofast 0) k (next_of l).list (next_live l v) t (ready st nofast 0) (omega arith) (omega arith) in
-      omega (arith, times_append q (xs ++ ((next_of l).pid ∷ [])) (joined (take k rs)), times_append q xs ((next_of l).pid ∷ []))
+      omega (arith, times_append q (xs ++ (pid_of (next_of l) ∷ [])) (joined (take k rs)), times_append q xs (pid_of (next_of l) ∷ []))
   reach j m n (suc k) l v (more (unsent d e) t) a b c = false_true (sym e ∙ found l v)
   reach j zero n (suc k) l v (more (failed d) t) a b c = let z = leb-false (wanted st nofast) n (d ratio-mode) in absurd (omega arith)
   reach j (suc m) n (suc k) l v (more {xs = xs} {ys = ys} {rs = rs} (failed d) t) a b c =

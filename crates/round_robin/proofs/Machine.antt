@@ -5,7 +5,7 @@ use Rattle.std.proofs.Common.{append-nil}
 use Rattle.base.specs.Choice.{pick}
 use Rattle.base.specs.Count.{more_of}
 use Rattle.config.specs.declared.Settings.{Settings}
-use Rattle.pid_list.specs.Rules.{next_of}
+use Rattle.pid_list.specs.Rules.{found, pid_of, next_of}
 use Rattle.pid_list.specs.declared.PidList.{PidList}
 use Rattle.round_robin.specs.Marks.{Mark, aside, rounds_in}
 
@@ -27,7 +27,7 @@ stretch st nofast = max 1 (wanted st nofast)
 -- What a round asks before its slow test, and the fast requests then.
 abbrev pub firstly : Bool → PidList → List ℕ
 firstly true f = []
-firstly false f = (next_of f).pid ∷ []
+firstly false f = pid_of (next_of f) ∷ []
 
 abbrev pub counted : Bool → ℕ → ℕ
 counted true r = r
@@ -40,8 +40,8 @@ module _ (st : Settings) (nofast : Bool) where
 
   -- A slow test with r fast requests: what is asked, and the slow list and the fast requests after it.
   pub data Test : PidList → ℕ → List ℕ → PidList → ℕ → Type 0 where
-    passed : {l : PidList} {r : ℕ} → Finds r true → (next_of l).found ≡ true → Test l r ((next_of l).pid ∷ []) (next_of l).list 0
-    unsent : {l : PidList} {r : ℕ} → Finds r true → (next_of l).found ≡ false → Test l r [] (next_of l).list 0
+    passed : {l : PidList} {r : ℕ} → Finds r true → found (next_of l) ≡ true → Test l r (pid_of (next_of l) ∷ []) (next_of l).list 0
+    unsent : {l : PidList} {r : ℕ} → Finds r true → found (next_of l) ≡ false → Test l r [] (next_of l).list 0
     failed : {l : PidList} {r : ℕ} → Finds r false → Test l r [] l r
 
   -- Rounds of which the first asks xs, then makes its test with r fast requests; those behind it ask the entries of f from its

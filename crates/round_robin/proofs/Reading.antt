@@ -1,14 +1,13 @@
 -- What is read of the connection, the multi-PID state, the settings and the open round is what is so of the box.
-use Rattle.std.specs.Prelude.{Bool, true, false, List, [], ◌∷◌, map, ◌≡◌, refl, ℕ, eqb}
+use Rattle.std.specs.Prelude.{None, Option, Some, Bool, true, false, List, [], ◌∷◌, map, ◌≡◌, refl, ℕ, eqb}
 use Rattle.std.proofs.Common.{ap, ◌∙◌, eqb-true}
 use Rattle.std.proofs.Math.Path.{sym}
 use Rattle.base.specs.Choice.{pick, cases, false_true}
 use Rattle.config.specs.Defaults.{default_settings}
 use Rattle.config.specs.declared.Profiles.{Profiles}
 use Rattle.config.specs.declared.Settings.{Settings}
+use Rattle.control.specs.declared.DongleMessage.{DongleMessage}
 use Rattle.control_line.specs.Ring.{take_of}
-use Rattle.control_line.specs.declared.Taken.{Taken}
-use Rattle.control_line.specs.declared.Taken.TheVariants.{Message, Nothing}
 use Rattle.link.specs.declared.FeatureSupport.TheVariants.{Unknown}
 use Rattle.link.specs.Rules.{start_link, is_no, loss_of, rested_of, connect_of as linkUp, fail_of as linkDown, reconnect_of as linkCheck}
 use Rattle.poller.specs.Calls.{multi_allowed, connect_of, fail_of, reconnect_of, begin_of}
@@ -45,9 +44,9 @@ shut MultiDue e = false_true (sym e)
 shut Over e = false_true (sym e)
 
 -- A control message goes into the lists alone.
-listing_aside : (p : Poller) (x : Taken) → ((listing p x).link ≡ p.link) × ((listing p x).round ≡ p.round)
-listing_aside p Nothing = (refl, refl)
-listing_aside p (Message m) = (refl, refl)
+listing_aside : (p : Poller) (x : Option DongleMessage) → ((listing p x).link ≡ p.link) × ((listing p x).round ≡ p.round)
+listing_aside p None = (refl, refl)
+listing_aside p (Some m) = (refl, refl)
 
 begin_open : (p : Poller) (st : Settings) → ((begin_of p st).link ≡ p.link) × (open_of (begin_of p st).round.phase ≡ true)
 unfolding begin_of

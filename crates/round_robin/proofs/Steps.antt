@@ -1,5 +1,5 @@
 -- Every call of the box is a step of the single rounds, or leaves the poller.
-use Rattle.std.specs.Prelude.{Bool, ◌||◌, List, [], ◌∷◌, map, ◌≡◌, ℕ, leb, eqb}
+use Rattle.std.specs.Prelude.{None, Option, Some, Bool, ◌||◌, List, [], ◌∷◌, map, ◌≡◌, ℕ, leb, eqb}
 use Rattle.std.proofs.Math.Bool.{true, false}
 use Rattle.std.proofs.Math.Path.{refl}
 use Rattle.std.proofs.Common.{ap, sym, ◌∙◌, arith}
@@ -8,13 +8,11 @@ use Rattle.base.specs.Choice.{cases, false_true}
 use Rattle.config.specs.declared.Settings.{Settings}
 use Rattle.control.specs.declared.DongleMessage.{DongleMessage}
 use Rattle.control_line.specs.Ring.{take_of}
-use Rattle.control_line.specs.declared.Taken.{Taken}
-use Rattle.control_line.specs.declared.Taken.TheVariants.{Message, Nothing}
 use Rattle.link.specs.Cases.{connect_already, fail_already, reconnect_connected}
 use Rattle.link.specs.Rules.{is_no}
 use Rattle.pid_list.specs.Members.{Sound}
 use Rattle.pid_list.specs.Robin.{next_none, next_some, next_sound}
-use Rattle.pid_list.specs.Rules.{size_of, next_of as nextPid}
+use Rattle.pid_list.specs.Rules.{size_of, found, next_of as nextPid}
 use Rattle.pid_list.specs.declared.PidList.{PidList}
 use Rattle.plan.specs.Steps.{padded}
 use Rattle.poll_laws.proofs.Rounds.{result_settled}
@@ -35,7 +33,7 @@ use Rattle.obd2.specs.History.{event_of, step, happened}
 use Rattle.obd2.specs.Refusals.{refusal_of}
 use Rattle.obd2.specs.State.{managed}
 use Rattle.obd2.specs.declared.State.{State}
-use Rattle.obd2.specs.declared.Answer.TheVariants.{Accepted}
+use Rattle.obd2.specs.Answer.{Accepted}
 use Rattle.obd2.specs.declared.Said.TheVariants as said
 use Rattle.round_robin.specs.Claim.{is_begin, Seen, seen_at, Quiet, Steady, more}
 use Rattle.round_robin.specs.Marks.{Mark, aside, next_mark, mark_done, mark, rounds_in}
@@ -109,7 +107,7 @@ module _ (st : Settings) (nofast : Bool) where
       unfolding issue_of end_of pids_of padded rounds_in
       slow_marks =
           cases _ (slow_passes p t)
-          (λ e. cases _ (nextPid p.slow).found
+          (λ e. cases _ (found (nextPid p.slow))
           (λ f. rw (slow_sent p t e (rw (f, up))) (λ k x. tested st nofast (passed (finds true e) f) (k over (record { within = at_slow; own = λ _. own; standing = v }) _)))
           (λ f. rw (slow_unsent p t e (rw f)) (λ k x. silent st nofast (unsent (finds true e) f) (k idle (record { within = at_closed; own = λ z. false_true z; standing = v })))))
           (λ e. rw (slow_not p t e) (λ k x. silent st nofast (failed (finds false e)) (k idle (record { within = at_closed; own = λ z. false_true z; standing = v }))))
@@ -136,9 +134,9 @@ module _ (st : Settings) (nofast : Bool) (ms : List Mark) (p : Poller) (t : ℕ)
   step_marks at_over o d = λ k xs. After.more (k idle (record { within = at_closed; own = λ z. false_true z; standing = v }))
 
 -- Taking nothing leaves the poller.
-taken_still : (p : Poller) (x : Taken) → ((m : DongleMessage) → Accepted (said.Taken x) ≡ Accepted (said.Taken (Message m)) → ⊥) → listing p x ≡ p
-taken_still p Nothing n = refl
-taken_still p (Message m) n = absurd (n m refl)
+taken_still : (p : Poller) (x : Option DongleMessage) → ((m : DongleMessage) → Accepted (said.Taken x) ≡ Accepted (said.Taken (Some m)) → ⊥) → listing p x ≡ p
+taken_still p None n = refl
+taken_still p (Some m) n = absurd (n m refl)
 
 -- ---- every call, and every list of calls
 
@@ -155,7 +153,7 @@ module _ (s : State) (st : Settings) (nofast : Bool) (same : s.settings ≡ st) 
 
   done_runs : (c : Call) → refusal_of s c ≡ 0 → let a = done_of s c in
       (is_begin c ≡ true → Single)
-      → ((m : DongleMessage) → Accepted a.said ≡ Accepted (said.Taken (Message m)) → ⊥) → Goes a.state.poller (mark_done c a.said a.details.query)
+      → ((m : DongleMessage) → Accepted a.said ≡ Accepted (said.Taken (Some m)) → ⊥) → Goes a.state.poller (mark_done c a.said a.details.query)
   unfolding done_of link_by round_by managed connect_of fail_of reconnect_of result_of round_after next_of rounds_in
   done_runs (manager t c) e o n k = leaves _ refl k
   done_runs (cache t c) e o n k = leaves _ refl k

@@ -1,5 +1,5 @@
 -- Demand 3, the rounds: what is read off a history, and the claim. The proof is in proofs/Theorem.
-use Rattle.std.specs.Prelude.{Bool, true, false, ◌&&◌, List, [], ◌∷◌, map, ◌≡◌, ℕ, ◌+◌, ◌*◌, ◌<◌, ◌≤◌, max, length, take, drop}
+use Rattle.std.specs.Prelude.{Some, Bool, true, false, ◌&&◌, List, [], ◌∷◌, map, ◌≡◌, ℕ, ◌+◌, ◌*◌, ◌<◌, ◌≤◌, max, length, take, drop}
 use Rattle.agreement.specs.Claim.{reading_at}
 use Rattle.base.specs.Choice.{pick}
 use Rattle.base.specs.Times.{times}
@@ -10,7 +10,6 @@ use Rattle.config.specs.declared.Settings.{Settings}
 use Rattle.control.specs.Outbox.{messages}
 use Rattle.control.specs.declared.DongleMessage.{DongleMessage}
 use Rattle.control_line.specs.Ring.{empty_line, push_all_of}
-use Rattle.control_line.specs.declared.Taken.TheVariants.{Message}
 use Rattle.link.specs.Rules.{is_no}
 use Rattle.link.specs.declared.FeatureSupport.{FeatureSupport}
 use Rattle.link.specs.declared.FeatureSupport.TheVariants.{Unknown}
@@ -24,7 +23,7 @@ use Rattle.obd2.specs.Call.{Call, manager, cache, settings, take_control, link, 
 use Rattle.obd2.specs.History.{start_of, Event, accepted_by, accepted, run, happened}
 use Rattle.obd2.specs.Refusals.{round_open}
 use Rattle.obd2.specs.declared.State.{State}
-use Rattle.obd2.specs.declared.Answer.TheVariants.{Accepted}
+use Rattle.obd2.specs.Answer.{Accepted}
 use Rattle.obd2.specs.declared.Said.TheVariants as said
 use Rattle.round_robin.specs.Marks.{Mark, Running, running, marks, mark, open_over, rounds, joined}
 
@@ -81,7 +80,7 @@ begins e = accepted e && is_begin e.call
 pub record Quiet (k : Seen) (e : Event) : Type 0 where
   pub stays_up : (seen k e).up ≡ true
   pub single : begins e ≡ true → multi_allowed k.settings.multi (is_no k.multi) ≡ false
-  pub none_taken : (m : DongleMessage) → e.answer ≡ Accepted (said.Taken (Message m)) → ⊥
+  pub none_taken : (m : DongleMessage) → e.answer ≡ Accepted (said.Taken (Some m)) → ⊥
   pub unchanged : (seen k e).settings ≡ k.settings
 
 pub data Steady : Seen → List Event → Type 0 where

@@ -16,8 +16,8 @@ use Rattle.poller.specs.declared.Query.{Query}
 use Rattle.obd2.specs.Call.{Call, manager, cache, settings, take_control, link, round, Connect, Fail, Check, Begin, Next, Result}
 use Rattle.obd2.specs.Done.{listing}
 use Rattle.obd2.specs.History.{Event, accepted}
-use Rattle.obd2.specs.declared.Answer.{Answer}
-use Rattle.obd2.specs.declared.Answer.TheVariants.{Refused, Accepted}
+use Rattle.obd2.specs.Answer.{Answer}
+use Rattle.obd2.specs.Answer.{Refused, Accepted}
 use Rattle.obd2.specs.declared.Said.{Said}
 use Rattle.obd2.specs.declared.Said.TheVariants as said
 

@@ -5,7 +5,7 @@ use Rattle.std.proofs.Common.{arith, drop_of_length-le, drop-cons, get_or-drop, 
 use Rattle.base.specs.Choice.{cases}
 use Rattle.base.specs.Count.{more_of}
 use Rattle.link.specs.Rules.{is_no}
-use Rattle.pid_list.specs.Rules.{next_of as nextPid}
+use Rattle.pid_list.specs.Rules.{found, pid_of, next_of as nextPid}
 use Rattle.plan.specs.Steps.{chunk_of, take_of}
 use Rattle.rounds.specs.Next.{issue_of, end_of, slow_passes, slow_of, first_of, multi_of, step_in, next_of}
 use Rattle.rounds.specs.Numbers.{step_values, values_from}
@@ -25,22 +25,22 @@ module _ (p : Poller) where
     unfolding slow_of
     slow_not e = rw e
 
-    pub slow_sent : slow_passes p t ≡ true → ((nextPid p.slow).found && p.link.connected) ≡ true
-        → slow_of p t ≡ issue_of (with_slow p (nextPid p.slow).list p.clock 0) SlowDue (chunk_of ((nextPid p.slow).pid ∷ []))
+    pub slow_sent : slow_passes p t ≡ true → (found (nextPid p.slow) && p.link.connected) ≡ true
+        → slow_of p t ≡ issue_of (with_slow p (nextPid p.slow).list p.clock 0) SlowDue (chunk_of (pid_of (nextPid p.slow) ∷ []))
     unfolding slow_of
     slow_sent e f = rw (e, f)
 
-    pub slow_unsent : slow_passes p t ≡ true → ((nextPid p.slow).found && p.link.connected) ≡ false
+    pub slow_unsent : slow_passes p t ≡ true → (found (nextPid p.slow) && p.link.connected) ≡ false
         → slow_of p t ≡ end_of (with_slow p (nextPid p.slow).list t 0)
     unfolding slow_of
     slow_unsent e f = rw (e, f)
 
-    pub first_some : (nextPid p.fast).found ≡ true
-        → first_of p t ≡ issue_of (with_fast p (nextPid p.fast).list (more_of p.requests)) FastDue (chunk_of ((nextPid p.fast).pid ∷ []))
+    pub first_some : found (nextPid p.fast) ≡ true
+        → first_of p t ≡ issue_of (with_fast p (nextPid p.fast).list (more_of p.requests)) FastDue (chunk_of (pid_of (nextPid p.fast) ∷ []))
     unfolding first_of
     first_some e = rw e
 
-    pub first_none : (nextPid p.fast).found ≡ false → first_of p t ≡ slow_of p t
+    pub first_none : found (nextPid p.fast) ≡ false → first_of p t ≡ slow_of p t
     unfolding first_of
     first_none e = rw e
 
@@ -96,13 +96,13 @@ module _ (p : Poller) where
   slow_answers : (t : ℕ) → Answers p (slow_of p t)
   unfolding issue_of end_of
   slow_answers t = cases _ (slow_passes p t)
-      (λ e. cases _ ((nextPid p.slow).found && p.link.connected) (λ f. rw (slow_sent p t e f)) (λ f. rw (slow_unsent p t e f)))
+      (λ e. cases _ (found (nextPid p.slow) && p.link.connected) (λ f. rw (slow_sent p t e f)) (λ f. rw (slow_unsent p t e f)))
       (λ e. rw (slow_not p t e))
 
   step_answers : (x : Phase) (t : ℕ) → Answers p (step_in x p t)
   unfolding issue_of end_of
   step_answers Closed t = refl
-  step_answers First t = cases _ (nextPid p.fast).found (λ e. rw (first_some p t e)) (λ e. rw (first_none p t e) (slow_answers t))
+  step_answers First t = cases _ (found (nextPid p.fast)) (λ e. rw (first_some p t e)) (λ e. rw (first_none p t e) (slow_answers t))
   step_answers FastDue t = refl
   step_answers Test t = slow_answers t
   step_answers SlowDue t = refl

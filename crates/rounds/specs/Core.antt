@@ -1,12 +1,11 @@
 -- A step of a round over the lent arrays, and what a step leaves of a list and of a plan.
-use Rattle.std.specs.Prelude.{◌≡◌, ℕ, Bool, List, [], length, ◌==◌, nat_lt, slice_set}
+use Rattle.std.specs.Prelude.{◌≡◌, ℕ, Bool, List, length, ◌==◌, nat_lt, slice_set}
 use Rattle.std.specs.Prelude.{refl}
 use Rattle.std.proofs.Common.{arith}
 use Rattle.base.specs.Choice.{cases}
 use Rattle.link.specs.Core.{link_of}
 use Rattle.link.specs.declared.rest.Core.{Core as LinkCore}
 use Rattle.pid_list.specs.Rules.{size_of, next_of as nextPid}
-use Rattle.pid_list.specs.declared.PidList.{PidList}
 use Rattle.plan.specs.Steps.{gather_of, least_in, take_of}
 use Rattle.plan.specs.declared.Plan.{Plan}
 use Rattle.poller.specs.Core.{Held, held, fast_row, slow_row, counts_row, fixed_row, polled_rows, lengths_row, known_rows, poller_of, list_of, ends_of, plan_in, course_of, put_same, put_other, lengths_put, plan_lengths}

@@ -3,7 +3,7 @@ use Rattle.std.specs.Prelude.{ℕ, ◌-◌, Bool, ◌&&◌, ◌||◌, [], ◌∷
 use Rattle.base.specs.Choice.{pick}
 use Rattle.base.specs.Count.{more_of}
 use Rattle.config.specs.declared.Settings.{Settings}
-use Rattle.pid_list.specs.Rules.{next_of as nextPid}
+use Rattle.pid_list.specs.Rules.{found, pid_of, next_of as nextPid}
 use Rattle.plan.specs.Steps.{chunk_of, take_of}
 use Rattle.plan.specs.declared.Chunk.{Chunk}
 use Rattle.poller.specs.State.{closed_round, with_fast, with_slow, with_round, with_plan}
@@ -42,16 +42,16 @@ slow_passes p t = slow_due p.settings p.round.nofast t p.clock p.requests
 unfoldable pub slow_of : Poller → ℕ → Stepped
 slow_of p t =
     pick (slow_passes p t)
-    (pick ((nextPid p.slow).found && p.link.connected)
-    (issue_of (with_slow p (nextPid p.slow).list p.clock 0) SlowDue (chunk_of ((nextPid p.slow).pid ∷ [])))
+    (pick (found (nextPid p.slow) && p.link.connected)
+    (issue_of (with_slow p (nextPid p.slow).list p.clock 0) SlowDue (chunk_of (pid_of (nextPid p.slow) ∷ [])))
     (end_of (with_slow p (nextPid p.slow).list t 0)))
     (end_of p)
 
 -- The next fast PID; the slow test where there is none.
 unfoldable pub first_of : Poller → ℕ → Stepped
 first_of p t =
-    pick (nextPid p.fast).found
-    (issue_of (with_fast p (nextPid p.fast).list (more_of p.requests)) FastDue (chunk_of ((nextPid p.fast).pid ∷ [])))
+    pick (found (nextPid p.fast))
+    (issue_of (with_fast p (nextPid p.fast).list (more_of p.requests)) FastDue (chunk_of (pid_of (nextPid p.fast) ∷ [])))
     (slow_of p t)
 
 -- The next query of the plan, till there is none.

@@ -1,5 +1,5 @@
 -- What a result teaches and ends: document 01, "Rounds (poller)".
-use Rattle.std.specs.Prelude.{ℕ, Bool, false, ◌&&◌, ◌||◌, List, [], ◌∷◌, drop, set, ◌==◌, nat_le, slice_index, slice_index_or, slice_set}
+use Rattle.std.specs.Prelude.{ℕ, Bool, false, ◌&&◌, ◌||◌, List, [], ◌∷◌, drop, ◌==◌, nat_le, slice_index, slice_index_or, slice_set}
 use Rattle.base.specs.Choice.{pick}
 use Rattle.link.specs.Rules.{is_no, loss_of}
 use Rattle.link.specs.declared.Features.{Features}

@@ -1,5 +1,5 @@
 // What a round asks next, and its end.
-ghost use Rattle.std.specs.Prelude.{◌≡◌, ℕ, ◌&&◌, List, [], ◌∷◌, slice_index_or};
+ghost use Rattle.std.specs.Prelude.{◌≡◌, ℕ, List, [], ◌∷◌, slice_index_or};
 ghost use Rattle.plan.specs.Steps.{chunk_of};
 ghost use Rattle.poller.specs.Core.{Held, held, with_polled, counts_row, poller_of};
 ghost use Rattle.rounds.specs.Core.{stepped_in};
@@ -64,6 +64,7 @@ fn end(mut p: Core) -> Moved
 
 // The slow test: by the time since the last slow poll, or by the fast requests since the last passed test. Without a fast PID
 // these don't grow, so in Ratio mode a round that began without one passes.
+#[tactic(auto, unfolding(crate::specs::Next::slow_due))]
 fn slow_due(s: Settings, nofast: bool, time: u64, clock: u64, requests: u32) -> bool
     ensures { result ≡ slow_due s nofast time clock requests }
 {
@@ -71,16 +72,7 @@ fn slow_due(s: Settings, nofast: bool, time: u64, clock: u64, requests: u32) -> 
         let since = base::elapsed(clock, time);
         return s.interval <= since;
     }
-    if nofast {
-        return true;
-    }
-    s.ratio <= requests
-}
-
-fn sendable(found: bool, connected: bool) -> bool
-    ensures { result ≡ (found && connected) }
-{
-    if found { connected } else { false }
+    nofast || s.ratio <= requests
 }
 
 // The slow test is made. The slow index moves where it passes, also when nothing can be sent.
@@ -96,12 +88,13 @@ fn slow(polled: &[[u8; 256]; POLLED], mut p: Core, time: u64) -> Moved
     let moved = picked.list;
     p.requests = 0;
     p.slow = poller::rest::ends_of(moved);
-    let link = p.link;
-    if sendable(picked.found, link.connected) {
-        return issue(polled, p, Phase::SlowDue, single(picked.pid));
+    match picked.pid {
+        Some(pid) if p.link.connected => issue(polled, p, Phase::SlowDue, single(pid)),
+        _ => {
+            p.clock = time;
+            end(p)
+        }
     }
-    p.clock = time;
-    end(p)
 }
 
 // A single round's first step: the next fast PID, or the slow test where there is none.
@@ -110,14 +103,12 @@ fn first(polled: &[[u8; 256]; POLLED], mut p: Core, time: u64) -> Moved
 {
     let list = poller::rest::fast(polled, p.fast);
     let picked = pid_list::next(list);
-    if !picked.found {
+    let Some(pid) = picked.pid else {
         return slow(polled, p, time);
-    }
-    let moved = picked.list;
-    let requests = base::more(p.requests);
-    p.fast = poller::rest::ends_of(moved);
-    p.requests = requests;
-    issue(polled, p, Phase::FastDue, single(picked.pid))
+    };
+    p.fast = poller::rest::ends_of(picked.list);
+    p.requests = base::more(p.requests);
+    issue(polled, p, Phase::FastDue, single(pid))
 }
 
 // A multi round's step: the next chunk of its plan.

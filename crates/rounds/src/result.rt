@@ -14,11 +14,7 @@ use poller::{Phase, Query, Round};
 fn lost(k: Kind) -> bool
     ensures { result ≡ is_lost k }
 {
-    match k {
-        Kind::Replied => false,
-        Kind::TimedOut => false,
-        Kind::Lost => true,
-    }
+    matches!(k, Kind::Lost)
 }
 
 // What a result teaches of a PID. A count, once kept, is not replaced.
@@ -37,13 +33,8 @@ fn teach(mut k: Lessons, pid: u8, l: Learnt) -> Lessons
 fn learn(mut k: Lessons, q: Query, learnt: [Learnt; 6]) -> Lessons
     ensures { result ≡ learn_of k q learnt }
 {
-    let n = if q.count < 6 { q.count } else { 6 };
-    let mut i = 0;
-    while i < n {
-        let pid = q.pids[i];
-        let l = learnt[i];
-        k = teach(k, pid, l);
-        i += 1;
+    for (i, pid) in q.pids[..q.count.min(6)].iter().enumerate() {
+        k = teach(k, *pid, learnt[i]);
     }
     k
 }
@@ -68,13 +59,7 @@ fn link_after(
 fn ends(count: usize, denied: bool, gone: bool) -> bool
     ensures { result ≡ ends_multi count denied gone }
 {
-    if gone {
-        return true;
-    }
-    if denied {
-        return 2 <= count;
-    }
-    false
+    gone || denied && 2 <= count
 }
 
 // The phase after the result.
@@ -82,19 +67,12 @@ fn phase_after(phase: Phase, over: bool) -> Phase
     ensures { result ≡ phase_after phase over }
 {
     match phase {
-        Phase::Closed => Phase::Closed,
-        Phase::First => Phase::First,
         Phase::FastDue => Phase::Test,
-        Phase::Test => Phase::Test,
         Phase::SlowDue => Phase::Over,
-        Phase::Multi => Phase::Multi,
-        Phase::MultiDue => {
-            if over {
-                return Phase::Over;
-            }
-            Phase::Multi
-        }
-        Phase::Over => Phase::Over,
+        Phase::MultiDue if over => Phase::Over,
+        Phase::MultiDue => Phase::Multi,
+        // no result is due
+        _ => phase,
     }
 }
 
@@ -119,15 +97,10 @@ fn round_after(r: Round, denied: bool, gone: bool) -> Round
 fn clock_after(phase: Phase, clock: u64, time: u64) -> u64
     ensures { result ≡ clock_after phase clock time }
 {
-    match phase {
-        Phase::SlowDue => time,
-        Phase::Closed => clock,
-        Phase::First => clock,
-        Phase::FastDue => clock,
-        Phase::Test => clock,
-        Phase::Multi => clock,
-        Phase::MultiDue => clock,
-        Phase::Over => clock,
+    if matches!(phase, Phase::SlowDue) {
+        time
+    } else {
+        clock
     }
 }
 

@@ -10,17 +10,20 @@ ghost use Rattle.config.specs.Defaults.{default_settings};
 ghost use Rattle.obd2.specs.Answers.{Answers, PromisedStart};
 ghost use Rattle.obd2.specs.Call as call;
 ghost use Rattle.obd2.specs.Core.{Lent, lent, box_of, answered_of};
-ghost use Rattle.obd2.specs.History.{refused, start_of};
+ghost use Rattle.obd2.specs.History.{start_of};
+ghost use Rattle.obd2.specs.Refusals.{start_refusal};
 ghost use Rattle.obd2.specs.State.{started};
+ghost use Rattle.refusal.specs.Number.{number_in};
 ghost use Rattle.poller.specs.Core.{held, polled_rows, known_rows};
 
 use clients::PLACES;
 use config::{Profiles, Settings};
 use link::ranges::{RANGE_ROW, RANGES};
 use obd2::rest::{Core, Told};
-use obd2::{Answer, Said, answers, telling};
+use obd2::{Said, answers, telling};
 use passes::Terms;
 use poller::rest::{KNOWN, ORDER, POLLED};
+use refusal::Refusal;
 use reply::rows::ROW;
 
 // The box before its first call, whatever its arrays had. An empty line has room for all that a start sends.
@@ -66,33 +69,20 @@ fn started(
     }
 }
 
-// A refused start: its number, and a box that is there all the same.
-fn refuse_start(
-    replies: &mut [[u8; ROW]; 256],
-    marks: &mut [[bool; 256]; PLACES],
-    table: &mut [[u64; 8]; 256],
-    slots: &mut [[u8; 2]; control_line::places::PLACES],
-    polled: &mut [[u8; 256]; POLLED],
-    known: &mut [[bool; 256]; KNOWN],
-    order: &mut [u8; ORDER],
-    ranges: &mut [[u8; RANGE_ROW]; RANGES],
-    number: u8,
-) -> Told
-    ensures marks_len { length marks.new ≡ places }
-    ensures table_len { length table.new ≡ 256 }
-    ensures polled_len { length polled.new ≡ polled_rows }
-    ensures known_len { length known.new ≡ known_rows }
-    ensures by_index { (pids : List ℕ) (rates : List Float) → answered_of (lent replies.new marks.new table.new slots.new (held polled.new known.new order.new ranges.new) pids rates) result ≡ refused (started 0 default_settings no_profiles) number }
+// What a start is refused for. No time comes before it, so that only a late one is.
+fn unfit(time: u64, settings: Settings, profiles: Profiles) -> Option<Refusal>
+    ensures { number_in result ≡ start_refusal time settings profiles }
 {
-    let settings = config::default_settings();
-    let profiles = config::no_profiles();
-    let core = started(
-        replies, marks, table, slots, polled, known, order, ranges, 0, settings, profiles,
-    );
-    telling::refuse(core, number)
+    if answers::bad_time(0, time) {
+        return Some(Refusal::BadTime);
+    }
+    if profile_check::unknown_mode(settings.mode) || profile_check::bad_profiles(profiles) {
+        return Some(Refusal::UnknownKind);
+    }
+    None
 }
 
-// The box's start. No time comes before it, so that only a late one is refused.
+// The box's start. One that is refused gives a box that is there all the same: the box started at 0 with defaults.
 pub fn start(
     replies: &mut [[u8; ROW]; 256],
     marks: &mut [[bool; 256]; PLACES],
@@ -113,29 +103,26 @@ pub fn start(
     ensures by_index { (pids : List ℕ) (rates : List Float) → answered_of (lent replies.new marks.new table.new slots.new (held polled.new known.new order.new ranges.new) pids rates) result ≡ start_of time settings profiles }
     ensures by_index_2 { (pids : List ℕ) (rates : List Float) → PromisedStart time settings profiles (answered_of (lent replies.new marks.new table.new slots.new (held polled.new known.new order.new ranges.new) pids rates) result) }
 {
-    if answers::bad_time(0, time) {
-        return refuse_start(
-            replies, marks, table, slots, polled, known, order, ranges, 1,
-        );
-    }
-    if profile_check::unknown_mode(settings.mode) {
-        return refuse_start(
-            replies, marks, table, slots, polled, known, order, ranges, 2,
-        );
-    }
-    if profile_check::bad_profiles(profiles) {
-        return refuse_start(
-            replies, marks, table, slots, polled, known, order, ranges, 2,
-        );
-    }
-    let core = started(
-        replies, marks, table, slots, polled, known, order, ranges, time, settings, profiles,
-    );
-    let notes = telling::no_notes();
-    Told {
-        core: core,
-        answer: Answer::Accepted(Said::Started),
-        notes: notes,
+    match unfit(time, settings, profiles) {
+        Some(refusal) => {
+            let settings = config::default_settings();
+            let profiles = config::no_profiles();
+            let core = started(
+                replies, marks, table, slots, polled, known, order, ranges, 0, settings, profiles,
+            );
+            telling::refuse(core, refusal)
+        }
+        None => {
+            let core = started(
+                replies, marks, table, slots, polled, known, order, ranges, time, settings,
+                profiles,
+            );
+            Told {
+                core: core,
+                answer: Ok(Said::Started),
+                notes: telling::no_notes(),
+            }
+        }
     }
 }
 
@@ -144,7 +131,7 @@ pub fn set_settings(mut core: Core, time: u64, settings: Settings) -> Told
     ensures { (x : Lent) → Answers (box_of x core) (call.settings time settings) (answered_of x result) }
 {
     if profile_check::unknown_mode(settings.mode) {
-        return telling::refuse(core, 2);
+        return telling::refuse(core, Refusal::UnknownKind);
     }
     core.settings = settings;
     let notes = telling::no_notes();

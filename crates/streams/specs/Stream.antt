@@ -116,3 +116,30 @@ module _ {S : Type 0} (m : Machine S) (owed : S → ℕ) (k : ℕ) (bounded : Bo
           at_is = rw (text_next m s input i h, length-append, f.state_is, f.at_is);
           out_is = rw (text_next m s input i h, f.state_is, f.at_is, f.out_is) (rw z at (over_over d 0 p (omega arith) (m.text (state_over m s (take i input)) (get_or input i 0))));
         }
+
+-- The first i bytes of an input are fed: the state then, and the text out, which is d with what they wrote behind it.
+pub record Behind {S : Type 0} (m : Machine S) (s : S) (input d : List ℕ) (i : ℕ) (now : S) (out : List ℕ) : Type 0 where
+  pub state_is : now ≡ state_over m s (take i input)
+  pub out_is : out ≡ d ++ text_over m s (take i input)
+
+pub behind_none : {S : Type 0} (m : Machine S) (s : S) (input d : List ℕ) → Behind m s input d 0 s d
+unfolding state_over text_over
+behind_none m s input d = record { state_is = refl; out_is = sym (append-nil d) }
+
+module _ {S : Type 0} (m : Machine S) (s : S) (input d : List ℕ) (i : ℕ) (now : S) (out : List ℕ) (f : Behind m s input d i now out) where
+  -- there is room for what is owed and for one byte more, and so for its text
+  pub behind_room : (owed : S → ℕ) (k : ℕ) → Bounded m owed k → (b room : ℕ) → i < length input → length d ≤ room → owed s + k * (i + 1) ≤ room - length d
+      → length out + length (m.text now b) ≤ room
+  behind_room owed k bounded b room h g l =
+      let n : length (take i input) ≡ i = length-take-le i input (omega arith) in
+      let t = rw n at (text_bound m owed k bounded s (take i input)) in
+      let o = bounded.bound (state_over m s (take i input)) b in
+      let z : k * (i + 1) ≡ k * i + k = omega arith in
+      rw (f.out_is, f.state_is, length-append) (omega arith)
+
+  pub behind_next : i < length input → Behind m s input d (i + 1) (m.next now (get_or input i 0)) (out ++ m.text now (get_or input i 0))
+  behind_next h =
+      record {
+        state_is = rw f.state_is (sym (state_next m s input i h));
+        out_is = rw (text_next m s input i h, f.state_is, f.out_is) (append_assoc d _ _);
+      }

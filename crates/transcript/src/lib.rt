@@ -1,12 +1,13 @@
 // What the program `commands` writes: each line of its input, the line's class and its number.
 #![tactic(auto)]
 
-ghost use Rattle.std.specs.Prelude.{◌≡◌, ◌+◌, ◌≤◌, length};
-ghost use Rattle.base.specs.Write.{over};
+ghost use Rattle.std.specs.Prelude.{◌≡◌, ◌+◌, ◌-◌, ◌≤◌, ◌++◌, length};
 ghost use Rattle.command.specs.Classify.{command_of};
-ghost use Rattle.transcript.specs.Lines.{start_line, kept_of, text_of, keep_of, tail_text, last_text, step_text, stepped_of, usable, part_text, fed_of};
+ghost use Rattle.transcript.specs.Lines.{start_line, kept_of, keep_of, tail_text, last_text, step_text, step_line, usable, part_text, fed_of};
+ghost use Rattle.writing.specs.Added.{Added};
 
 use command::Command;
+use writing::Text;
 
 // The start of the line that is being read: the first `kept` of `head`. No command's class depends on
 // more than six bytes, so a line may be of any length.
@@ -16,25 +17,11 @@ pub struct Line {
     pub kept: u8,
 }
 
-// The first `len` of `bytes`.
-#[derive(Clone, Copy)]
-pub struct Text {
-    pub bytes: [u8; 9],
-    pub len: usize,
-}
-
-// The line after a part of the input, how many bytes of it were used, and how many were written.
+// The line after a part of the input, and how many bytes of it were used.
 #[derive(Clone, Copy)]
 pub struct Fed {
     pub line: Line,
     pub used: usize,
-    pub written: usize,
-}
-
-#[derive(Clone, Copy)]
-struct Stepped {
-    line: Line,
-    at: usize,
 }
 
 pub fn start() -> Line
@@ -70,101 +57,60 @@ fn class_of(line: Line) -> Command
 }
 
 // What follows a line: a tab, the class, a tab, the number, a line feed.
-fn tail(c: Command) -> Text
-    ensures result_value { text_of result ≡ tail_text c }
-    ensures len_in_bounds { result.len ≤ length result.bytes }
+fn tail<const N: usize>(out: &mut Text<N>, c: Command)
+    ensures { Added N out.old (tail_text c) out.new }
 {
     match c {
-        Command::Range(k) => Text {
-            bytes: [
-                b'\t',
-                b'r',
-                b'a',
-                b'n',
-                b'g',
-                b'e',
-                b'\t',
-                b'0' + k % 10,
-                b'\n',
-            ],
-            len: 9,
-        },
-        Command::Pid(p) => {
-            let high = ascii::hex_digit(p / 16);
-            let low = ascii::hex_digit(p);
-            Text {
-                bytes: [b'\t', b'p', b'i', b'd', b'\t', high, low, b'\n', 0],
-                len: 8,
-            }
+        Command::Range(k) => {
+            out.put(b"\trange\t");
+            out.byte(b'0' + k % 10);
+            out.byte(b'\n');
         }
-        Command::Unknown => Text {
-            bytes: [b'\t', b'?', b'\t', b'-', b'\n', 0, 0, 0, 0],
-            len: 5,
-        },
+        Command::Pid(p) => {
+            out.put(b"\tpid\t");
+            out.byte(ascii::hex_digit(p / 16));
+            out.byte(ascii::hex_digit(p));
+            out.byte(b'\n');
+        }
+        Command::Unknown => out.put(b"\t?\t-\n"),
     }
-}
-
-fn put(t: Text, out: &mut [u8], at: usize) -> usize
-    requires { (t.len ≤ length t.bytes) × (at + 9 ≤ length out.old) }
-    ensures value { result ≡ at + length (text_of t) }
-    ensures out_after { out.new ≡ over out.old at (text_of t) }
-{
-    let bytes = t.bytes;
-    let n = t.len;
-    base::copy(&bytes[..n], &mut out[at..]);
-    at + n
 }
 
 // What one byte of the input writes, and the line after it.
-fn step(line: Line, b: u8, out: &mut [u8], at: usize) -> Stepped
-    requires { at + 9 ≤ length out.old }
-    ensures value { result ≡ stepped_of line b at }
-    ensures out_after { out.new ≡ over out.old at (step_text line b) }
+fn step<const N: usize>(line: Line, b: u8, out: &mut Text<N>) -> Line
+    requires { length out.old + 9 ≤ N }
+    ensures value { result ≡ step_line line b }
+    ensures out_after { out.new ≡ out.old ++ step_text line b }
 {
     if b == b'\n' {
-        let next = put(tail(class_of(line)), out, at);
-        return Stepped {
-            line: start(),
-            at: next,
-        };
+        tail(out, class_of(line));
+        return start();
     }
-    out[at] = b;
-    Stepped {
-        line: keep(line, b),
-        at: at + 1,
-    }
+    out.byte(b);
+    keep(line, b)
 }
 
 // Uses as much of the input as surely has room in out, nine bytes for each.
-pub fn feed(line: Line, input: &[u8], out: &mut [u8]) -> Fed
-    ensures value { result ≡ fed_of line input.now out.old }
-    ensures out_after { out.new ≡ over out.old 0 (part_text line (usable input.now out.old)) }
+pub fn feed<const N: usize>(line: Line, input: &[u8], out: &mut Text<N>) -> Fed
+    ensures value { result ≡ fed_of line input.now (N - length out.old) }
+    ensures out_after { out.new ≡ out.old ++ part_text line (usable input.now (N - length out.old)) }
 {
-    let n = input.len().min(out.len() / 9);
+    let n = input.len().min(out.room() / 9);
     let mut current = line;
-    let mut at = 0;
     for i in 0..n {
-        let s = step(current, input[i], out, at);
-        current = s.line;
-        at = s.at;
+        current = step(current, input[i], out);
     }
     Fed {
         line: current,
         used: n,
-        written: at,
     }
 }
 
 // What follows the last line, where the input ends without a line feed: nothing where that line is empty.
-pub fn finish(line: Line) -> Text
-    ensures result_value { text_of result ≡ last_text (kept_of line) }
-    ensures len_in_bounds { result.len ≤ length result.bytes }
+pub fn finish<const N: usize>(line: Line, out: &mut Text<N>)
+    ensures { Added N out.old (last_text (kept_of line)) out.new }
 {
-    if line.kept == 0 {
-        return Text {
-            bytes: [0u8; 9],
-            len: 0,
-        };
+    if line.kept != 0 {
+        tail(out, class_of(line));
     }
-    tail(class_of(line))
 }

@@ -1,7 +1,7 @@
 // Triggered profiles, switched off by a value above their threshold (the Rust's check_triggered_auto_disable).
 #![tactic(auto)]
 
-ghost use Rattle.std.specs.Prelude.{◌≡◌};
+ghost use Rattle.std.specs.Prelude.{◌≡◌, ◌≤◌};
 ghost use Rattle.triggers.specs.Rules.{in_force_of, crossed_of, switched_of, switch_of, notice_of};
 
 use config::{Profile, Profiles};
@@ -12,38 +12,30 @@ const MOST: usize = 16;
 const TRIGGERED: u8 = 2;
 
 // How many profiles are in force: a count above 16 is 16.
+#[tactic(auto, unfolding(crate::specs::Rules::in_force_of))]
 fn in_force(count: u8) -> usize
-    ensures { result ≡ in_force_of count }
+    ensures { (result ≡ in_force_of count) × (result ≤ 16) }
 {
-    let n = count as usize;
-    if n < MOST { n } else { MOST }
+    MOST.min(count as usize)
 }
 
 // Whether a value of the PID switches the profile off.
-fn crossed(profile: Profile, pid: u8, value: u32) -> bool
-    ensures { result ≡ crossed_of pid value profile }
+#[tactic(auto, unfolding(crate::specs::Rules::crossed_of))]
+fn crossed(profile: &Profile, pid: u8, value: u32) -> bool
+    ensures { result ≡ crossed_of pid value profile.now }
 {
-    if profile.kind != TRIGGERED {
-        return false;
-    }
-    if !profile.enabled {
-        return false;
-    }
-    if profile.pid != pid {
-        return false;
-    }
-    if !profile.limited {
-        return false;
-    }
-    profile.threshold < value
+    profile.kind == TRIGGERED
+        && profile.enabled
+        && profile.pid == pid
+        && profile.threshold.is_some_and(|threshold| threshold < value)
 }
 
+#[tactic(auto, unfolding(crate::specs::Rules::switched_of))]
 fn switched(mut profile: Profile, pid: u8, value: u32) -> Profile
     ensures { result ≡ switched_of pid value profile }
 {
-    if crossed(profile, pid, value) {
+    if crossed(&profile, pid, value) {
         profile.enabled = false;
-        return profile;
     }
     profile
 }
@@ -54,29 +46,18 @@ pub fn switch(mut profiles: Profiles, pid: u8, value: u32) -> Profiles
 {
     let n = in_force(profiles.count);
     let mut list = profiles.list;
-    let mut i: usize = 0;
-    while i < n {
-        let old = list[i];
-        let new = switched(old, pid, value);
-        list[i] = new;
-        i += 1;
+    for i in 0..n {
+        list[i] = switched(list[i], pid, value);
     }
     profiles.list = list;
     profiles
 }
 
 // Whether a value of the PID switches some profile off: one notice, however many they are.
+#[tactic(auto, unfolding(crate::specs::Rules::notice_of))]
 pub fn notice(profiles: Profiles, pid: u8, value: u32) -> bool
     ensures { result ≡ notice_of pid value profiles }
 {
-    let n = in_force(profiles.count);
-    let mut i: usize = 0;
-    while i < n {
-        let profile = profiles.list[i];
-        if crossed(profile, pid, value) {
-            return true;
-        }
-        i += 1;
-    }
-    false
+    let in_force = &profiles.list[..in_force(profiles.count)];
+    in_force.iter().any(|profile| crossed(profile, pid, value))
 }

@@ -1,5 +1,5 @@
 -- The claim, proved.
-use Rattle.std.specs.Prelude.{true, false, List, [], ◌∷◌, ◌≡◌, refl, ℕ, zero, suc, ◌^◌, ◌<◌, ◌≤◌, eqb}
+use Rattle.std.specs.Prelude.{Option, true, false, List, [], ◌∷◌, ◌≡◌, refl, ℕ, zero, suc, ◌^◌, ◌<◌, ◌≤◌, eqb}
 use Rattle.std.proofs.Common.{ap, sym, ◌∙◌, arith, eqb-true}
 use Rattle.agreement.specs.Claim.{Reading}
 use Rattle.agreement.proofs.ReadOff.{box_read}
@@ -13,9 +13,8 @@ use Rattle.config.specs.declared.Profiles.{Profiles}
 use Rattle.config.specs.declared.Settings.{Settings}
 use Rattle.delivery.specs.Cases.{fit_count}
 use Rattle.delivery.specs.Rules.{rpm, unfit, revs_after, response_refusal, response_of, turns_of, unanswered, pid_at, reply_at, value_at}
-use Rattle.desk.specs.Rules.{registered, fresh, no_revs, start_desk, put_client, entered, leave_of}
+use Rattle.desk.specs.Rules.{revs_number, registered, fresh, no_revs, start_desk, put_client, entered, leave_of}
 use Rattle.desk.specs.declared.Desk.{Desk}
-use Rattle.desk.specs.declared.Revs.{Revs}
 use Rattle.pid.specs.Laws.{revs_length}
 use Rattle.reply.specs.declared.Reply.{Reply}
 use Rattle.reply.specs.declared.Response.{Response}
@@ -73,14 +72,14 @@ done_read s (take_control t) e = refl
 done_read s (link t c) e = refl
 done_read s (round t c) e = refl
 
-abbrev revs_of : State → Revs
+abbrev revs_of : State → Option ℕ
 revs_of s = s.desk.revs
 
 run_read : (cs : List Call) (s : State) → read (revs_of s) (happened s cs) ≡ revs_of (run s cs)
 unfolding read happened run
 run_read [] s = refl
 run_read (c ∷ cs) s =
-    ap (λ (r : Revs). read r (happened (step s c).state cs)) (step_reads s c revs_of (read_call (revs_of s) c) (done_read s c)) ∙ run_read cs (step s c).state
+    ap (λ (r : Option ℕ). read r (happened (step s c).state cs)) (step_reads s c revs_of (read_call (revs_of s) c) (done_read s c)) ∙ run_read cs (step s c).state
 
 start_revs : (t : ℕ) (st : Settings) (ps : Profiles) → revs_of (start_of t st ps).state ≡ no_revs
 unfolding start_of started start_desk
@@ -91,19 +90,19 @@ two_bytes : (y : Reply) → Bytes y.bytes → value_of rpm y < 256 ^ 2
 unfolding width_of
 two_bytes y b = rw revs_length at (value_below rpm y b)
 
-revs_below : (p : ℕ) (y : Reply) (old : Revs) → Bytes y.bytes → old.value ≤ most_revs → (revs_after p (value_of p y) old).value ≤ most_revs
+revs_below : (p : ℕ) (y : Reply) (old : Option ℕ) → Bytes y.bytes → revs_number old ≤ most_revs → revs_number (revs_after p (value_of p y) old) ≤ most_revs
 unfolding revs_after
 revs_below p y old b h = cases _ (eqb p rpm)
     (λ e. rw (e, eqb-true p rpm e) (omega (arith, two_bytes y b)))
     (λ e. rw e h)
 
-revs_in_below : (r : Response) → FitResponse r → (k i : ℕ) (old : Revs) → old.value ≤ most_revs → (revs_in k i r old).value ≤ most_revs
+revs_in_below : (r : Response) → FitResponse r → (k i : ℕ) (old : Option ℕ) → revs_number old ≤ most_revs → revs_number (revs_in k i r old) ≤ most_revs
 unfolding revs_in
 revs_in_below r f zero i old h = h
 revs_in_below r f (suc k) i old h =
     revs_in_below r f k (suc i) (revs_after (pid_at r i) (value_at r i) old) (revs_below (pid_at r i) (reply_at r i) old (f.bytes i) h)
 
-read_below : (old : Revs) (c : Call) → Fit c → old.value ≤ most_revs → (read_call old c).value ≤ most_revs
+read_below : (old : Option ℕ) (c : Call) → Fit c → revs_number old ≤ most_revs → revs_number (read_call old c) ≤ most_revs
 unfolding read_call
 read_below old (manager t Register) f h = h
 read_below old (manager t (Leave c)) f h = h
@@ -119,7 +118,7 @@ read_below old (link t c) f h = h
 read_below old (round t c) f h = h
 
 abbrev Bounded : State → Type 0
-Bounded s = (revs_of s).value ≤ most_revs
+Bounded s = revs_number (revs_of s) ≤ most_revs
 
 answering : (s : State) (t : ℕ) (r : Response) → accepted_by (step s (response t r)).answer ≡ true → (i : ℕ) → i < r.count → Answers s t r i
 unfolding done_of manager_by manager_rows
@@ -135,7 +134,7 @@ answering s t r a i h =
 pub claim : Claim
 claim = record {
   answers = answering;
-  revs = λ t st ps cs. sym (run_read cs (start_of t st ps).state) ∙ ap (λ (r : Revs). read r (happened (start_of t st ps).state cs)) (start_revs t st ps);
+  revs = λ t st ps cs. sym (run_read cs (start_of t st ps).state) ∙ ap (λ (r : Option ℕ). read r (happened (start_of t st ps).state cs)) (start_revs t st ps);
   profiles = λ t st ps cs. ap (λ (r : Reading). r.profiles) (sym (box_read t st ps cs));
   manager = λ t st ps cs. ap (λ (r : Reading). r.manager) (sym (box_read t st ps cs));
   bound = λ t st ps cs f. run_keeps Bounded (λ s c x h e. rw (← done_read s c e) (read_below (revs_of s) c x h)) cs (start_of t st ps).state f (rw (start_revs t st ps) (omega arith));

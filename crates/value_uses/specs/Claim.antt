@@ -5,14 +5,13 @@
 -- answers, the revs that are kept, the profiles that are switched off and the manager are read from the start and the
 -- accepted calls alone (the last two as agreement's claim reads them).
 -- What a session says is known of lengths comes in nowhere.
-use Rattle.std.specs.Prelude.{true, false, List, [], ◌∷◌, ◌≡◌, ℕ, zero, suc, ◌<◌, ◌≤◌, get_or}
+use Rattle.std.specs.Prelude.{Option, true, false, List, [], ◌∷◌, ◌≡◌, ℕ, zero, suc, ◌<◌, ◌≤◌, get_or}
 use Rattle.agreement.specs.Claim.{switched, box_after, read_after}
 use Rattle.base.specs.Choice.{pick}
 use Rattle.config.specs.declared.Profiles.{Profiles}
 use Rattle.config.specs.declared.Settings.{Settings}
 use Rattle.delivery.specs.Rules.{revs_after, pid_at, value_at}
-use Rattle.desk.specs.Rules.{no_revs}
-use Rattle.desk.specs.declared.Revs.{Revs}
+use Rattle.desk.specs.Rules.{revs_number, no_revs}
 use Rattle.reply.specs.declared.Response.{Response}
 use Rattle.triggers.specs.Rules.{notice_of}
 use Rattle.obd2.specs.Call.{Call, manager, cache, settings, take_control, link, round, Register, Leave, Respond, Changed, Waiting, Consumed, Tick, response, Calls}
@@ -20,12 +19,12 @@ use Rattle.obd2.specs.History.{start_of, step, Event, happened, accepted_by, acc
 use Rattle.obd2.specs.declared.State.{State}
 
 -- The revs after the k PIDs of a response from place i on.
-unfoldable pub revs_in : ℕ → ℕ → Response → Revs → Revs
+unfoldable pub revs_in : ℕ → ℕ → Response → Option ℕ → Option ℕ
 revs_in zero i r old = old
 revs_in (suc k) i r old = revs_in k (suc i) r (revs_after (pid_at r i) (value_at r i) old)
 
 -- The revs after an accepted call: only a response's values move them.
-unfoldable pub read_call : Revs → Call → Revs
+unfoldable pub read_call : Option ℕ → Call → Option ℕ
 read_call old (manager t Register) = old
 read_call old (manager t (Leave c)) = old
 read_call old (manager t (Respond r)) = revs_in r.count 0 r old
@@ -39,7 +38,7 @@ read_call old (take_control t) = old
 read_call old (link t c) = old
 read_call old (round t c) = old
 
-unfoldable pub read : Revs → List Event → Revs
+unfoldable pub read : Option ℕ → List Event → Option ℕ
 read old [] = old
 read old (e ∷ es) = read (pick (accepted e) (read_call old e.call) old) es
 
@@ -65,4 +64,4 @@ pub record Claim : Type 0 where
   pub manager : (t : ℕ) (st : Settings) (ps : Profiles) (cs : List Call)
       → (box_after t st ps cs).manager ≡ (read_after t st ps cs).manager
   -- "the revs came out in the millions": they no longer can
-  pub bound : (t : ℕ) (st : Settings) (ps : Profiles) (cs : List Call) → Calls cs → (box_after t st ps cs).desk.revs.value ≤ most_revs
+  pub bound : (t : ℕ) (st : Settings) (ps : Profiles) (cs : List Call) → Calls cs → revs_number (box_after t st ps cs).desk.revs ≤ most_revs

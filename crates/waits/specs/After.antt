@@ -1,4 +1,6 @@
 -- The desk after collect and give up, what an accepted collect found, and what it hands out.
+use Rattle.std.specs.Prelude.{is_some}
+use Rattle.clients.specs.Rules.{since_in}
 use Rattle.std.specs.Prelude.{◌≡◌, ℕ, ◌-◌, ◌≤◌, Bool, true, not, ◌&&◌, ◌==◌}
 use Rattle.base.specs.Choice.{pick}
 use Rattle.clients.specs.Rules.{idle}
@@ -21,13 +23,13 @@ AfterWait d c accepted hands e =
 -- What an accepted collect found: a registered client that waits, and a reply that came and fits the lent area.
 pub record Found (d : Desk) (c n : ℕ) : Type 0 where
   pub known : registered d c ≡ true
-  pub waiting : (wait_of d c).waiting ≡ true
+  pub waiting : is_some (wait_of d c) ≡ true
   pub was_fresh : fresh d c (awaited d c) ≡ true
   pub fits : size_of (awaited_reply d c) ≤ n
 
 -- A reading that a collect hands out: of the PID that the client waits for, the newest reply, with the wait since the ask.
 pub record Collects (d : Desk) (t c : ℕ) (a : Collected) : Type 0 where
   pub pid_of_law : a.pid ≡ awaited d c
-  pub wait_of_law : a.wait ≡ t - (wait_of d c).since
+  pub wait_of_law : a.wait ≡ t - since_in (wait_of d c)
   pub lines_of : a.lines ≡ (awaited_reply d c).lines
   pub lengths_of_law : a.lengths ≡ (awaited_reply d c).lengths

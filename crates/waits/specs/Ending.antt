@@ -1,5 +1,6 @@
 -- Collect and give up over lent replies and marks: their answers as those of `Rules`, case by case.
-use Rattle.std.specs.Prelude.{◌≡◌, ℕ, ◌-◌, ◌<◌, ◌≤◌, Bool, true, false, ltb, List, [], length, replicate, ◌≢◌, nat_lt, slice_index_or, slice_set}
+use Rattle.clients.specs.Rules.{pid_in}
+use Rattle.std.specs.Prelude.{Option, Some, None, is_some, ◌≡◌, ℕ, ◌-◌, ◌<◌, ◌≤◌, Bool, true, false, ltb, List, [], length, replicate, ◌≢◌, nat_lt, slice_index_or, slice_set}
 use Rattle.std.proofs.Common.{ap, sym, ◌∙◌, arith}
 use Rattle.clients.specs.Rules.{places, seat_of, taken_of, idled_of}
 use Rattle.clients.specs.Seats.{seated, no_seat, clients_of, taken_marks}
@@ -59,35 +60,26 @@ module _ (replies : List (List ℕ)) (marks : List (List Bool)) (k : Core) (c i 
       collect_refused d t c area 8 (λ q. omega arith) (collect_stranger d c (length area) (held_missing replies marks k c i e h))
 
   module _ (h : i < places) (l : length k.clients ≡ places) where
-    -- What stands at the place, the row of the PID that is waited for, and its mark.
+    -- What stands at the place.
     abbrev seat : Seat
     seat = slice_index_or k.clients i no_seat
-
-    abbrev pid : ℕ
-    pid = seat.wait.pid
-
-    abbrev out : Reply
-    out = reply_in (slice_index_or replies pid [])
-
-    abbrev mark : Bool
-    mark = slice_index_or (slice_index_or marks i []) pid false
 
     its_wait : seat.wait ≡ wait_of d c
     its_wait = held_wait replies marks k c i e h l
 
-    waits : (b : Bool) → seat.wait.waiting ≡ b → (wait_of d c).waiting ≡ b
-    waits b f = ap (λ (w : Wait). w.waiting) (sym its_wait) ∙ f
+    waits : (w : Option Wait) → seat.wait ≡ w → is_some (wait_of d c) ≡ is_some w
+    waits w f = ap (λ (v : Option Wait). is_some v) (sym its_wait ∙ f)
 
-    pub idle_gives_up : seat.wait.waiting ≡ false → given_up_in replies marks (ended 10 k) ≡ give_up_of d c
-    idle_gives_up f = sym (give_up_idle d c (held_known replies marks k c i e h) (waits false f))
+    pub idle_gives_up : seat.wait ≡ None → given_up_in replies marks (ended 10 k) ≡ give_up_of d c
+    idle_gives_up f = sym (give_up_idle d c (held_known replies marks k c i e h) (waits None f))
 
     -- The place s is the client's, but for its wait.
     module _ (s : Seat) (q : (m : List Bool) → seated m s ≡ idled_of (seated m seat)) where
-      pub gives_up : seat.wait.waiting ≡ true → given_up_in replies marks (ended 0 (with_seats k (slice_set k.clients i s))) ≡ give_up_of d c
-      gives_up f =
+      pub gives_up : (w : Wait) → seat.wait ≡ Some w → given_up_in replies marks (ended 0 (with_seats k (slice_set k.clients i s))) ≡ give_up_of d c
+      gives_up w f =
           let x = q (slice_index_or marks i []) ∙ ap idled_of (held_is replies marks k c i e h l) in
           ap (gave_up 0) (held_seat_put replies marks k c i e h s (idled_of (client_of d c)) x)
-          ∙ sym (give_up_done d c (held_known replies marks k c i e h) (waits true f))
+          ∙ sym (give_up_done d c (held_known replies marks k c i e h) (waits (Some w) f))
 
     -- A collect, with a lent area.
     module _ (t : ℕ) (area : List ℕ) where
@@ -95,21 +87,34 @@ module _ (replies : List (List ℕ)) (marks : List (List Bool)) (k : Core) (c i 
           → (collected_in replies marks (not_handed n k) ≡ collect_of d t c (length area)) × (area ≡ collect_area d c area)
       refused n z r = collect_refused d t c area n z r
 
-      pub idle_collects : seat.wait.waiting ≡ false
+      pub idle_collects : seat.wait ≡ None
           → (collected_in replies marks (not_handed 10 k) ≡ collect_of d t c (length area)) × (area ≡ collect_area d c area)
-      idle_collects f = refused 10 (λ q. omega arith) (collect_idle d c (length area) (held_known replies marks k c i e h) (waits false f))
+      idle_collects f = refused 10 (λ q. omega arith) (collect_idle d c (length area) (held_known replies marks k c i e h) (waits None f))
 
-      module _ (f : seat.wait.waiting ≡ true) where
+      -- The wait, the row of its PID, and the PID's mark.
+      module _ (w : Wait) (f : seat.wait ≡ Some w) where
+        abbrev pid : ℕ
+        pid = w.pid
+
+        abbrev out : Reply
+        out = reply_in (slice_index_or replies pid [])
+
+        abbrev mark : Bool
+        mark = slice_index_or (slice_index_or marks i []) pid false
+
+        known_wait : wait_of d c ≡ Some w
+        known_wait = sym its_wait ∙ f
+
         came : (b : Bool) → mark ≡ b → fresh d c (awaited d c) ≡ b
-        came b g = ap (λ (w : Wait). fresh d c w.pid) (sym its_wait) ∙ sym (held_fresh replies marks k c i e h l pid) ∙ g
+        came b g = ap (λ (v : Option Wait). fresh d c (pid_in v)) known_wait ∙ sym (held_fresh replies marks k c i e h l pid) ∙ g
 
         its_reply : out ≡ awaited_reply d c
-        its_reply = held_reply replies marks k pid ∙ ap (λ (w : Wait). stored d w.pid) its_wait
+        its_reply = held_reply replies marks k pid ∙ ap (λ (v : Option Wait). stored d (pid_in v)) (sym known_wait)
 
         pub early_collects : mark ≡ false
             → (collected_in replies marks (not_handed 11 k) ≡ collect_of d t c (length area)) × (area ≡ collect_area d c area)
         early_collects g =
-            refused 11 (λ q. omega arith) (collect_early d c (length area) (held_known replies marks k c i e h) (waits true f) (came false g))
+            refused 11 (λ q. omega arith) (collect_early d c (length area) (held_known replies marks k c i e h) (waits (Some w) f) (came false g))
 
         module _ (g : mark ≡ true) where
           fits : (b : Bool) → nat_lt (length area) (size_of out) ≡ b → nat_lt (length area) (size_of (awaited_reply d c)) ≡ b
@@ -119,7 +124,7 @@ module _ (replies : List (List ℕ)) (marks : List (List Bool)) (k : Core) (c i 
               → (collected_in replies marks (not_handed 14 k) ≡ collect_of d t c (length area)) × (area ≡ collect_area d c area)
           short_collects o =
               refused 14 (λ q. omega arith)
-              (collect_short d c (length area) (held_known replies marks k c i e h) (waits true f) (came true g) (fits true o))
+              (collect_short d c (length area) (held_known replies marks k c i e h) (waits (Some w) f) (came true g) (fits true o))
 
           -- The mark is taken, and the wait is over.
           abbrev row : List Bool
@@ -131,12 +136,12 @@ module _ (replies : List (List ℕ)) (marks : List (List Bool)) (k : Core) (c i 
                 let x = q row ∙ ap idled_of (sym (taken_marks (slice_index_or marks i []) seat pid) ∙ ap (taken_of pid) (held_is replies marks k c i e h l)) in
                 held_both_put replies marks k c i e h j row s (idled_of (taken_of pid (client_of d c))) x
 
-            pub collects : ltb (length area) (size_of out) ≡ false → (n : ℕ) → n ≡ t - seat.wait.since
+            pub collects : ltb (length area) (size_of out) ≡ false → (n : ℕ) → n ≡ t - w.since
                 → (collected_in replies (slice_set marks i row) (handed (with_seats k (slice_set k.clients i s)) pid n out) ≡ collect_of d t c (length area))
                 × (filled_of out area ≡ collect_area d c area)
             collects o n r =
-                let p = collect_done d t c area (collect_none d c (length area) (held_known replies marks k c i e h) (waits true f) (came true g) (fits false o)) in
+                let p = collect_done d t c area (collect_none d c (length area) (held_known replies marks k c i e h) (waits (Some w) f) (came true g) (fits false o)) in
                 let u = ap (λ (y : Reply). collected_in replies (slice_set marks i row) (handed (with_seats k (slice_set k.clients i s)) pid n y)) (held_reply replies marks k pid) in (
-                  u ∙ collected_is d _ t c seat.wait n its_wait r taken ∙ p.0,
+                  u ∙ collected_is d _ t c w n known_wait r taken ∙ p.0,
                   ap (λ (y : Reply). filled_of y area) its_reply ∙ p.1,
                 )

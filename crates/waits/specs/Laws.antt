@@ -1,5 +1,6 @@
 -- What collect and give up do to the desk, and which reading a collect hands out.
-use Rattle.std.specs.Prelude.{◌≡◌, ℕ, Bool, true, false, not, ◌&&◌, List, [], ◌∷◌, ◌++◌, length, drop, ◌==◌, ◌≢◌, nat_eq, nat_lt}
+use Rattle.std.specs.Prelude.{is_some}
+use Rattle.std.specs.Prelude.{Option, ◌≡◌, ℕ, Bool, true, false, not, ◌&&◌, List, [], ◌∷◌, ◌++◌, length, drop, ◌==◌, ◌≢◌, nat_eq, nat_lt}
 use Rattle.std.proofs.Math.Bool.{and-true}
 use Rattle.std.proofs.Math.Path.{refl, sym}
 use Rattle.std.proofs.Common.{ap, ◌∙◌, arith}
@@ -25,7 +26,7 @@ kept_fresh true true = refl
 kept_fresh true false = refl
 kept_fresh false g = refl
 
-kept_wait : (b : Bool) (v w : Wait) → w ≡ pick (b && false) v w
+kept_wait : (b : Bool) (v w : Option Wait) → w ≡ pick (b && false) v w
 kept_wait true v w = refl
 kept_wait false v w = refl
 
@@ -73,7 +74,7 @@ module _ (d : Desk) (c n : ℕ) where
   unfolding collect_refusal
   collect_found e =
       let stranger = not (registered d c) in
-      let still = not (wait_of d c).waiting in
+      let still = not (is_some (wait_of d c)) in
       let early = not (fresh d c (awaited d c)) in
       let short = nat_lt n (size_of (awaited_reply d c)) in
       let a = not_next 8 stranger ((10, still) ∷ (11, early) ∷ (14, short) ∷ []) (λ q. omega arith) e in
@@ -81,7 +82,7 @@ module _ (d : Desk) (c n : ℕ) where
       let f = not_next 11 early ((14, short) ∷ []) (λ q. omega arith) b in
       record {
         known = not-false (registered d c) (not_here 8 stranger ((10, still) ∷ (11, early) ∷ (14, short) ∷ []) (λ q. omega arith) e);
-        waiting = not-false (wait_of d c).waiting (not_here 10 still ((11, early) ∷ (14, short) ∷ []) (λ q. omega arith) a);
+        waiting = not-false (is_some (wait_of d c)) (not_here 10 still ((11, early) ∷ (14, short) ∷ []) (λ q. omega arith) a);
         was_fresh = not-false (fresh d c (awaited d c)) (not_here 11 early ((14, short) ∷ []) (λ q. omega arith) b);
         fits = ltb-false n (size_of (awaited_reply d c)) (not_here 14 short [] (λ q. omega arith) f);
       }
@@ -133,7 +134,7 @@ module _ (d : Desk) (t c : ℕ) (area : List ℕ) where
 module _ (d : Desk) (c : ℕ) where
   pub give_up_known : give_up_refusal d c ≡ 0 → registered d c ≡ true
   unfolding give_up_refusal
-  give_up_known e = not-false (registered d c) (not_here 8 (not (registered d c)) ((10, not (wait_of d c).waiting) ∷ []) (λ q. omega arith) e)
+  give_up_known e = not-false (registered d c) (not_here 8 (not (registered d c)) ((10, not (is_some (wait_of d c))) ∷ []) (λ q. omega arith) e)
 
   pub give_up_law : Sound d → let a = give_up_of d c in AfterWait d c (a.refusal == 0) (λ p. false) a.desk
   unfolding give_up_of

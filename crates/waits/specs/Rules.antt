@@ -1,4 +1,6 @@
 -- Collect and give up (document 01, "Client cache").
+use Rattle.std.specs.Prelude.{is_some}
+use Rattle.clients.specs.Rules.{pid_in, since_in}
 use Rattle.std.specs.Prelude.{ℕ, ◌-◌, not, List, [], ◌∷◌, length, replicate, ◌==◌, nat_lt}
 use Rattle.base.specs.Choice.{pick}
 use Rattle.base.specs.Refusal.{Rows, first_of}
@@ -12,7 +14,7 @@ use Rattle.waits.specs.declared.GivenUp.{GivenUp}
 
 -- The PID that a client waits for, and its newest reply.
 abbrev pub awaited : Desk → ℕ → ℕ
-awaited d c = (wait_of d c).pid
+awaited d c = pid_in (wait_of d c)
 
 abbrev pub awaited_reply : Desk → ℕ → Reply
 awaited_reply d c = stored d (awaited d c)
@@ -21,7 +23,7 @@ awaited_reply d c = stored d (awaited d c)
 abbrev pub collect_rows : Desk → ℕ → ℕ → Rows
 collect_rows d c n =
     (8, not (registered d c))
-    ∷ (10, not (wait_of d c).waiting)
+    ∷ (10, not (is_some (wait_of d c)))
     ∷ (11, not (fresh d c (awaited d c)))
     ∷ (14, nat_lt n (size_of (awaited_reply d c)))
     ∷ []
@@ -39,7 +41,7 @@ collected_of d t c =
       desk = put_client d c (idled_of (taken_of (awaited d c) (client_of d c)));
       refusal = 0;
       pid = awaited d c;
-      wait = t - (wait_of d c).since;
+      wait = t - since_in (wait_of d c);
       lines = (awaited_reply d c).lines;
       lengths = (awaited_reply d c).lengths;
     }
@@ -51,7 +53,7 @@ unfoldable pub collect_area : Desk → ℕ → List ℕ → List ℕ
 collect_area d c area = pick (collect_refusal d c (length area) == 0) (filled_of (awaited_reply d c) area) area
 
 abbrev pub give_up_rows : Desk → ℕ → Rows
-give_up_rows d c = (8, not (registered d c)) ∷ (10, not (wait_of d c).waiting) ∷ []
+give_up_rows d c = (8, not (registered d c)) ∷ (10, not (is_some (wait_of d c))) ∷ []
 
 unfoldable pub give_up_refusal : Desk → ℕ → ℕ
 give_up_refusal d c = first_of (give_up_rows d c)

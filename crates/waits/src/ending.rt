@@ -1,11 +1,11 @@
 // How a client's wait ends, with the newest replies and the clients' fresh marks lent: collect and give up.
-ghost use Rattle.std.specs.Prelude.{◌≡◌, ℕ, Bool, List, length};
+ghost use Rattle.std.specs.Prelude.{◌≡◌, ◌<◌, ℕ, Bool, List, length};
 ghost use Rattle.clients.specs.Rules.{places};
 ghost use Rattle.desk.specs.Core.{desk_of};
 ghost use Rattle.waits.specs.Rules.{collect_of, collect_area, give_up_of};
 ghost use Rattle.waits.specs.Ending.{not_handed, handed, collected_in, given_up_in};
 
-use clients::PLACES;
+use clients::{PLACES, Wait};
 use desk::rest::Core;
 use reply::Reply;
 use reply::rows::ROW;
@@ -56,6 +56,13 @@ fn hand(core: Core, pid: u8, wait: u64, out: Reply) -> Handed
     }
 }
 
+// The row of the PID that is waited for: one of the 256.
+fn row(wait: Wait) -> usize
+    ensures { (result ≡ wait.pid) × (result < 256) }
+{
+    wait.pid as usize
+}
+
 // The reply that the client waits for is taken.
 pub fn collect(
     replies: &[[u8; ROW]; 256],
@@ -74,12 +81,10 @@ pub fn collect(
         return refuse(core, 8);
     };
     let seat = core.clients[at];
-    let wait = seat.wait;
-    if !wait.waiting {
+    let Some(wait) = seat.wait else {
         return refuse(core, 10);
-    }
-    let pid = wait.pid;
-    let i = pid as usize;
+    };
+    let i = row(wait);
     if !marks[at][i] {
         return refuse(core, 11);
     }
@@ -92,7 +97,7 @@ pub fn collect(
     let served = clients::seats::end_wait(seat);
     core.clients[at] = served;
     let waited = base::elapsed(wait.since, time);
-    hand(core, pid, waited, out)
+    hand(core, wait.pid, waited, out)
 }
 
 // The client waits no longer. A reply that came meanwhile stays fresh.
@@ -106,13 +111,12 @@ pub fn give_up(mut core: Core, number: u32) -> Ended
         };
     };
     let seat = core.clients[at];
-    let wait = seat.wait;
-    if !wait.waiting {
+    let Some(_) = seat.wait else {
         return Ended {
             core: core,
             refusal: 10,
         };
-    }
+    };
     let idle = clients::seats::end_wait(seat);
     core.clients[at] = idle;
     Ended {

@@ -1,64 +1,52 @@
-// Lists written into lent memory, parted by commas, as far as there is room.
+// Lists written behind a text, parted by commas, as far as there is room.
 #![tactic(auto)]
 
 ghost use Rattle.std.specs.Prelude.{◌≡◌};
-ghost use Rattle.writing.specs.Fill.{Wrote};
+ghost use Rattle.writing.specs.Added.{Added};
 ghost use Rattle.writing_lists.specs.Parted.{comma_text, none_text, pids_text, numbers_text};
 
+use writing::Text;
+
 // A comma, where something stands before it.
-pub fn comma(out: &mut [u8], at: usize, more: bool) -> usize
-    ensures { Wrote out.old at (comma_text more) out.new result }
+pub fn comma<const N: usize>(out: &mut Text<N>, more: bool)
+    ensures { Added N out.old (comma_text more) out.new }
 {
     if more {
-        return writing::byte(out, at, b',');
+        out.byte(b',');
     }
-    at
 }
 
 // `-`, where a list turned out to have nothing in it.
-pub fn none(out: &mut [u8], at: usize, some: bool) -> usize
-    ensures { Wrote out.old at (none_text some) out.new result }
+pub fn none<const N: usize>(out: &mut Text<N>, some: bool)
+    ensures { Added N out.old (none_text some) out.new }
 {
-    if some {
-        return at;
+    if !some {
+        out.byte(b'-');
     }
-    writing::byte(out, at, b'-')
 }
 
 // PIDs parted by commas, `-` for none.
-pub fn pids(out: &mut [u8], at: usize, pids: &[u8]) -> usize
-    ensures { Wrote out.old at (pids_text pids.now) out.new result }
+pub fn pids<const N: usize>(out: &mut Text<N>, pids: &[u8])
+    ensures { Added N out.old (pids_text pids.now) out.new }
 {
-    let mut place = at;
     let mut more = false;
-    let mut i = 0;
-    while i < pids.len() {
-        place = comma(out, place, more);
-        place = writing_pairs::pair(out, place, pids[i]);
+    for pid in pids {
+        comma(out, more);
+        writing_pairs::pair(out, *pid);
         more = true;
-        i += 1;
     }
-    none(out, place, more)
-}
-
-fn wide(b: u8) -> u64
-    ensures { result ≡ b }
-{
-    b as u64
+    none(out, more);
 }
 
 // Numbers parted by commas, `-` for none.
-pub fn numbers(out: &mut [u8], at: usize, numbers: &[u8]) -> usize
-    ensures { Wrote out.old at (numbers_text numbers.now) out.new result }
+pub fn numbers<const N: usize>(out: &mut Text<N>, numbers: &[u8])
+    ensures { Added N out.old (numbers_text numbers.now) out.new }
 {
-    let mut place = at;
     let mut more = false;
-    let mut i = 0;
-    while i < numbers.len() {
-        place = comma(out, place, more);
-        place = writing::number(out, place, wide(numbers[i]));
+    for number in numbers {
+        comma(out, more);
+        out.number(u64::from(*number));
         more = true;
-        i += 1;
     }
-    none(out, place, more)
+    none(out, more);
 }

@@ -1,52 +1,51 @@
-// Bytes and words written into lent memory as hex digits, one behind the other, as far as there is room.
+// Bytes and words written into a text as hex digits, one behind the other, as far as there is room.
 #![tactic(auto)]
 
 ghost use Rattle.std.specs.Prelude.{[], ◌∷◌, ◌≡◌};
 ghost use Rattle.std.specs.Float.{binary32};
 ghost use Rattle.std.specs.Float.Ieee.{to_bits};
 ghost use Rattle.hex_text.specs.Pairs.{hex_text};
-ghost use Rattle.writing.specs.Fill.{Wrote};
+ghost use Rattle.writing.specs.Added.{Added};
 ghost use Rattle.writing_pairs.specs.Pairs.{bytes_text, word_text};
 
+use writing::Text;
+
 // A byte as its pair of hex digits.
-pub fn pair(out: &mut [u8], at: usize, b: u8) -> usize
-    ensures { Wrote out.old at (hex_text (b ∷ [])) out.new result }
+pub fn pair<const N: usize>(out: &mut Text<N>, b: u8)
+    ensures { Added N out.old (hex_text (b ∷ [])) out.new }
 {
-    let second = writing::byte(out, at, ascii::hex_digit(b / 16));
-    writing::byte(out, second, ascii::hex_digit(b))
+    out.byte(ascii::hex_digit(b / 16));
+    out.byte(ascii::hex_digit(b));
 }
 
 // Bytes as pairs, one behind the other.
-fn pairs(out: &mut [u8], at: usize, bytes: &[u8]) -> usize
-    ensures { Wrote out.old at (hex_text bytes.now) out.new result }
+fn pairs<const N: usize>(out: &mut Text<N>, bytes: &[u8])
+    ensures { Added N out.old (hex_text bytes.now) out.new }
 {
-    let mut place = at;
-    let mut i = 0;
-    while i < bytes.len() {
-        place = pair(out, place, bytes[i]);
-        i += 1;
+    for b in bytes {
+        pair(out, *b);
     }
-    place
 }
 
 // Bytes as pairs, `-` for none.
-pub fn bytes(out: &mut [u8], at: usize, bytes: &[u8]) -> usize
-    ensures { Wrote out.old at (bytes_text bytes.now) out.new result }
+pub fn bytes<const N: usize>(out: &mut Text<N>, bytes: &[u8])
+    ensures { Added N out.old (bytes_text bytes.now) out.new }
 {
-    if bytes.len() == 0 {
-        return writing::byte(out, at, b'-');
+    if bytes.is_empty() {
+        out.byte(b'-');
+    } else {
+        pairs(out, bytes);
     }
-    pairs(out, at, bytes)
 }
 
 // 32 bits as eight hex digits.
-pub fn word(out: &mut [u8], at: usize, word: u32) -> usize
-    ensures { Wrote out.old at (word_text word) out.new result }
+pub fn word<const N: usize>(out: &mut Text<N>, word: u32)
+    ensures { Added N out.old (word_text word) out.new }
 {
-    let second = pair(out, at, (word / 16777216 % 256) as u8);
-    let third = pair(out, second, (word / 65536 % 256) as u8);
-    let fourth = pair(out, third, (word / 256 % 256) as u8);
-    pair(out, fourth, (word % 256) as u8)
+    pair(out, (word / 16777216 % 256) as u8);
+    pair(out, (word / 65536 % 256) as u8);
+    pair(out, (word / 256 % 256) as u8);
+    pair(out, (word % 256) as u8);
 }
 
 // The bits of a float. No machine is bound to one of the patterns of a NaN, so that one is picked here.

@@ -6,10 +6,6 @@ use Rattle.by_value.specs.Parts.{Parts, by_parts}
 use borrow.Author.Rules.{rules}
 use Rattle.by_value.proofs.call.Goals as goal
 
--- The clauses, each under its name.
-named_value_area_after_promised : {A B C : Type 0} → A × (B × C) → record { value : A; area_after : B; promised : C }
-named_value_area_after_promised p = record { value = p.0; area_after = p.1.0; promised = p.1.1 }
-
 pub call-said-requires : goal.call-said-requires
 call-said-requires c =
     record {
@@ -23,7 +19,7 @@ call-said-requires c =
 
 pub returns : goal.returns
 returns c =
-    named_value_area_after_promised (let a = c.args in
+    let a = c.args in
     let x = lent c.pack_all-replies.result c.marks_of-marks.result c.pack_all-table.result c.pack_all-slots.result (held c.polled_of-polled.result c.known_of-known.result a.state.poller.plan.pids c.pack_all-ranges.result) [] [] in
     let parts : Parts a.state x = record {
       replies = c.pack_all-replies.ensures;
@@ -35,4 +31,5 @@ returns c =
       order = refl;
       ranges = c.pack_all-ranges.ensures;
     } in
-    by_parts a.state x c.core_of-core.result parts c.core_of-core.ensures a.time a.call a.brought a.cmd.now a.area.now _ _ _ c.answered_of.ensures (c.call-said.ensures.result_after, (c.call-said.ensures.area_after, c.call-said.ensures.promised)))
+    let told = by_parts a.state x c.core_of-core.result parts c.core_of-core.ensures a.time a.call a.brought a.cmd.now a.area.now _ _ _ c.answered_of.ensures (c.call-said.ensures.result_after, (c.call-said.ensures.area_after, c.call-said.ensures.promised)) in
+    record { value = told.0; area_after = told.1.0; promised = told.1.1 }

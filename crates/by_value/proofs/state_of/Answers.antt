@@ -4,5 +4,4 @@ use Rattle.by_value.proofs.state_of.Goals as goal
 
 pub returns : goal.returns
 unfolding manager_of line_of
-returns c =
-    rw (c.poller_of-poller.ensures, c.desk_of-desk.ensures, c.unpack_all-entries.ensures, c.unpack_all-messages.ensures)
+returns c = rw (c.poller_of.ensures, c.desk_of.ensures, c.unpack_all.ensures, c.unpack_all-2.ensures)

@@ -7,12 +7,12 @@ use Rattle.capture_stream.specs.declared.Reading.{Reading}
 use Rattle.captures.proofs.feed_part.Goals as goal
 
 -- no more is used than there is
-used_le : (r : Reading) (hold input out : List ℕ) (at : ℕ) (f : Fed) → at ≤ length input
-    → f ≡ fed_of (going r hold) (take (length input - at) (drop at input)) out → at + f.used ≤ length input
-used_le r hold input out at f h e =
+used_le : (r : Reading) (hold input : List ℕ) (at room : ℕ) (f : Fed) → at ≤ length input
+    → f ≡ fed_of (going r hold) (take (length input - at) (drop at input)) room → at + f.used ≤ length input
+used_le r hold input at room f h e =
     let part = take (length input - at) (drop at input) in
     let short : length part ≤ length input - at = rw length-take (omega arith) in
-    let used : f.used ≤ length part = rw e (fed_short (going r hold) part out) in
+    let used : f.used ≤ length part = rw e (fed_short (going r hold) part room) in
     omega arith
 
 pub overflow_add-at : goal.overflow_add-at
@@ -22,4 +22,4 @@ pub loop-more-preserved : goal.loop-more-preserved
 loop-more-preserved g c =
     let u = used_le _ _ _ _ _ _ c.loop-more.invariant.0 c.feed-fed.ensures.value in
     let i = c.loop-more.invariant in
-    (u, c.feed-fed.auto.hold ∙ i.1, c.feed-fed.auto.out ∙ i.2)
+    (u, c.feed-fed.auto.hold ∙ i.1)

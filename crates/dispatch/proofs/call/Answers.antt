@@ -107,7 +107,7 @@ returns-then-bad_time c =
       (
         λ z. (refl, refl),
         found o a.time a.brought a.cmd.now a.area.now refl
-            (refused_late o a.time a.brought a.cmd.now a.area.now a.call f.1 f.0 (sym c.bad_time.ensures ∙ c.if-bad_time.true) (refused_is x a.core c.refuse.result 1 c.refuse.ensures) refl),
+            (refused_late o a.time a.brought a.cmd.now a.area.now a.call f.1 f.0 (sym c.bad_time.ensures ∙ c.if-bad_time.true) (refused_is x a.core c.refuse.result _ c.refuse.ensures) refl),
       ),
     ))
 

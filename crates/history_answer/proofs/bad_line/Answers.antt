@@ -2,9 +2,6 @@
 use Rattle.history_answer.specs.Texts.{bad_text}
 use Rattle.history_answer.proofs.bad_line.Goals as goal
 
-pub put-requires : goal.put-requires
-put-requires c = tt
-
 pub returns : goal.returns
 unfolding bad_text
-returns c = let w = c.put.ensures in record { value = w.place_is; out_after = w.out_is }
+returns g c = c.put.ensures

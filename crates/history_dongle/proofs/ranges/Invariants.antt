@@ -1,12 +1,10 @@
-use lib.ListN.{length, drop}
-use Prim.Native.Nat.{◌≤◌, ◌-◌}
+use Prim.Native.Nat.{◌≤◌, ◌+◌}
 use mathlib.Core.Path.{◌≡◌}
-use Rattle.history_items.specs.Items.{items_of}
+use lib.ListN.{length}
+use Rattle.history_items.specs.Items.{items_of, items_left}
 use Rattle.history_dongle.specs.Lists.{ranges_from, ranges_of}
 use Rattle.history_dongle.proofs.ranges.Given as goal
 
-abbrev pub invariant-loop-at : goal.invariant-loop-at
-invariant-loop-at l = (l.at ≤ length l.s) × (l.read.count ≤ l.at) × (ranges_of (items_of 32 l.s) ≡ ranges_from l.read (items_of 32 (drop l.at l.s)))
-
-abbrev pub decreases-loop-at : goal.decreases-loop-at
-decreases-loop-at l = length l.s - l.at
+abbrev pub invariant-loop-token : goal.invariant-loop-token
+invariant-loop-token l =
+    (l.read.count + length (items_left l.token-iterator) ≤ length l.s) × (ranges_of (items_of 32 l.s) ≡ ranges_from l.read (items_left l.token-iterator))

@@ -35,4 +35,4 @@ returns-in-Err-Short c =
 pub returns-in-Err-Bad : goal.returns-in-Err-Bad
 returns-in-Err-Bad c =
     let n = bad_says _ _ _ (ap read_of c.place-whole.ensures) (c.in-Err-Bad.is ∙ ap Err (rw c.in-Err-Bad.is at c.in-Err-Bad.field-0-is)) in
-    rw c.place-whole.ensures (filled_bad _ _ _ c.requires n)
+    filled_bad _ _ _ c.requires n

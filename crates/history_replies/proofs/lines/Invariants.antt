@@ -1,12 +1,9 @@
-use lib.ListN.{length, drop}
-use Prim.Native.Nat.{◌≤◌, ◌-◌}
+use Prim.Native.Nat.{◌≤◌}
 use mathlib.Core.Path.{◌≡◌}
-use Rattle.history_items.specs.Items.{items_of}
-use Rattle.history_replies.specs.Replies.{lines_of, lines_from}
+use Rattle.history_items.specs.Items.{items_of, items_left}
+use Rattle.reply.specs.Rules.{empty_reply}
+use Rattle.history_replies.specs.Replies.{lines_from}
 use Rattle.history_replies.proofs.lines.Given as goal
 
-abbrev pub invariant-loop-at : goal.invariant-loop-at
-invariant-loop-at l = (l.at ≤ length l.s) × (l.fill ≤ 64) × (lines_of l.s ≡ lines_from l.reply l.fill (items_of 44 (drop l.at l.s)))
-
-abbrev pub decreases-loop-at : goal.decreases-loop-at
-decreases-loop-at l = length l.s - l.at
+abbrev pub invariant-loop-line : goal.invariant-loop-line
+invariant-loop-line l = (l.fill ≤ 64) × (lines_from empty_reply 0 (items_of 44 l.s) ≡ lines_from l.reply l.fill (items_left l.line-iterator))

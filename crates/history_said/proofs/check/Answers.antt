@@ -4,8 +4,8 @@ use Rattle.history_said.proofs.check.Goals as goal
 
 pub returns-then-yes : goal.returns-then-yes
 unfolding check_text
-returns-then-yes c = rw c.if-yes.true c.put.ensures
+returns-then-yes g c = rw c.if-yes.true c.put.ensures
 
-pub returns : goal.returns
+pub returns-else-yes : goal.returns-else-yes
 unfolding check_text
-returns c = rw c.if-yes.false c.put-2.ensures
+returns-else-yes g c = rw c.if-yes.false c.put-else-yes.ensures

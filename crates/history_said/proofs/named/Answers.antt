@@ -1,6 +1,6 @@
 -- `history_said::named` meets its contract.
-use Rattle.writing.specs.Fill.{wrote_then}
+use Rattle.writing.specs.Added.{added_then}
 use Rattle.history_said.proofs.named.Goals as goal
 
 pub returns : goal.returns
-returns c = wrote_then c.put-next.ensures c.pair.ensures
+returns g c = added_then c.put.ensures c.pair.ensures

@@ -1,11 +1,12 @@
 -- `history_said::said` meets its contract.
+use mathlib.Core.Path.{sym}
 use Rattle.history_said.specs.Texts.{said_text}
 use Rattle.history_said.proofs.said.Goals as goal
 
-pub returns-in-Refused : goal.returns-in-Refused
+pub returns-in-Err : goal.returns-in-Err
 unfolding said_text
-returns-in-Refused c = λ x. rw c.in-Refused.is c.numbered.ensures
+returns-in-Err g c = λ x. rw (c.in-Err.is, sym c.number.ensures, sym c.from.ensures) c.numbered.ensures
 
-pub returns-in-Accepted : goal.returns-in-Accepted
+pub returns-in-Ok : goal.returns-in-Ok
 unfolding said_text
-returns-in-Accepted c = λ x. rw c.in-Accepted.is (c.accepted.ensures x)
+returns-in-Ok g c = λ x. rw c.in-Ok.is (c.accepted.ensures x)

@@ -2,10 +2,10 @@
 use Rattle.history_said.specs.Texts.{taken_text}
 use Rattle.history_said.proofs.taken.Goals as goal
 
-pub returns-in-Message : goal.returns-in-Message
+pub returns-in-Some : goal.returns-in-Some
 unfolding taken_text
-returns-in-Message c = rw c.in-Message.is c.control.ensures
+returns-in-Some g c = rw c.in-Some.is c.control.ensures
 
-pub returns-in-Nothing : goal.returns-in-Nothing
+pub returns-in-None : goal.returns-in-None
 unfolding taken_text
-returns-in-Nothing c = rw c.in-Nothing.is c.put.ensures
+returns-in-None g c = rw c.in-None.is c.put.ensures

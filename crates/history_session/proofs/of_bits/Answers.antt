@@ -1,27 +1,10 @@
--- `history_session::of_bits` meets its contract. The invariant: the first p are as they should be.
-use mathlib.Core.Path.{◌≡◌, sym, ap, ◌∙◌}
-use lib.ListN.{length, length-set}
-use lib.Seq.{take_all}
-use Rattle.history_session.specs.Session.{bit_in, table_of, none_length, table_none, table_next}
+-- `history_session::of_bits` meets its contract.
+use mathlib.Core.Bool.{false}
 use native.Mathlib.Omega.{arith}
+use Rattle.std.proofs.lemmas.List.FromFn.{fill_by_all}
+use Rattle.history_session.specs.Session.{bit_in}
 use Rattle.history_session.proofs.of_bits.Goals as goal
-
-pub none_known-known-requires : goal.none_known-known-requires
-none_known-known-requires c = tt
-
-pub loop-p-init : goal.loop-p-init
-loop-p-init c =
-    (omega arith, ap length c.none_known-known.ensures ∙ none_length, table_none (bit_in c.args.bits) c.none_known-known.result)
-
-pub loop-p-preserved : goal.loop-p-preserved
-unfolding bit_in
-loop-p-preserved c =
-    let i = c.loop-p.invariant in
-    let n = i.1 in
-    (omega arith, simp length-set n, rw c.bit.ensures (table_next (bit_in c.args.bits) c.loop-p.known c.loop-p.p (omega arith) i.2))
 
 pub returns : goal.returns
 returns c =
-    let i = c.loop-p.invariant in
-    let e : c.loop-p.p ≡ 256 = omega arith in
-    sym (take_all c.loop-p.p c.loop-p.known (omega arith)) ∙ i.2 ∙ ap (table_of (bit_in c.args.bits)) e
+    fill_by_all (bit_in c.args.bits) c.loop-p.known 256 false c.loop-p.invariant.0 (λ k h. c.loop-p.invariant.1 k (omega arith))

@@ -1,5 +1,5 @@
 -- `history_show::list` meets its contract.
-use Rattle.writing.specs.Fill.{wrote_then}
+use Rattle.writing.specs.Added.{added_then}
 use Rattle.history_show.specs.Texts.{list_text}
 use Rattle.pid_list.specs.Rules.{entries}
 use Rattle.pid_list.specs.Laws.{size_le}
@@ -11,32 +11,17 @@ use Rattle.history_show.proofs.list.Goals as goal
 use Rattle.history_show.proofs.list.Goals.{Start}
 
 -- a list has 256 places
-whole : (c : Start) → length c.args.list.pids ≡ 256
-whole c = search rules
-
-pub size-n-requires : goal.size-n-requires
-size-n-requires c = tt
-
-pub byte-first-requires : goal.byte-first-requires
-byte-first-requires c = tt
-
-pub number-index-requires : goal.number-index-requires
-number-index-requires c = tt
-
-pub byte-next-requires : goal.byte-next-requires
-byte-next-requires c = tt
+whole : (g : _) (c : Start g) → length c.args.list.pids ≡ 256
+whole g c = search rules
 
 pub slice_bounds-pids-end : goal.slice_bounds-pids-end
-slice_bounds-pids-end c = rw (whole (goal.at.slice_bounds-pids-end c).Start, c.size-n.ensures) (size_le _)
+slice_bounds-pids-end g c = rw (whole g (goal.at.slice_bounds-pids-end g c).Start, c.size-n.ensures) (size_le _)
 
 pub slice_bounds-pids-end-2 : goal.slice_bounds-pids-end-2
-slice_bounds-pids-end-2 c =
-    sym (length-take-le _ _ (rw (whole (goal.at.slice_bounds-pids-end-2 c).Start, c.size-n.ensures) (size_le _)))
-
-pub pids-requires : goal.pids-requires
-pids-requires c = tt
+slice_bounds-pids-end-2 g c =
+    sym (length-take-le _ _ (rw (whole g (goal.at.slice_bounds-pids-end-2 g c).Start, c.size-n.ensures) (size_le _)))
 
 pub returns : goal.returns
 unfolding list_text entries
-returns c =
-    wrote_then c.byte-first.ensures (wrote_then c.number-index.ensures (wrote_then c.byte-next.ensures (rw c.size-n.ensures at c.pids.ensures)))
+returns g c =
+    added_then c.byte.ensures (added_then c.number.ensures (added_then c.byte-2.ensures (rw c.size-n.ensures at c.pids.ensures)))

@@ -1,15 +1,12 @@
 -- `history_show::pin` meets its contract.
-use Rattle.writing.specs.Fill.{wrote_none}
+use Rattle.writing.specs.Added.{added_all}
 use Rattle.history_show.specs.Texts.{pin_text}
 use Rattle.history_show.proofs.pin.Goals as goal
 
-pub byte-requires : goal.byte-requires
-byte-requires c = tt
-
 pub returns-then-pinned : goal.returns-then-pinned
 unfolding pin_text
-returns-then-pinned c = rw c.if-pinned.true c.byte.ensures
+returns-then-pinned g c = rw c.if-pinned.true c.byte.ensures
 
-pub returns : goal.returns
+pub returns-else-pinned : goal.returns-else-pinned
 unfolding pin_text
-returns c = rw c.if-pinned.false (wrote_none _ _)
+returns-else-pinned g c = rw c.if-pinned.false (added_all _ _)

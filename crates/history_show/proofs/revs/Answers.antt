@@ -1,21 +1,12 @@
 -- `history_show::revs` meets its contract.
-use Rattle.writing.specs.Fill.{wrote_then}
+use Rattle.writing.specs.Added.{added_then}
 use Rattle.history_show.specs.Texts.{revs_text}
 use Rattle.history_show.proofs.revs.Goals as goal
 
-pub byte-next-requires : goal.byte-next-requires
-byte-next-requires c = tt
-
-pub number-requires : goal.number-requires
-number-requires c = tt
-
-pub returns-then-revs : goal.returns-then-revs
+pub returns-in-Some : goal.returns-in-Some
 unfolding revs_text
-returns-then-revs c = rw c.if-revs.true (wrote_then c.byte-next.ensures c.number.ensures)
+returns-in-Some g c = rw c.in-Some.is (added_then c.byte.ensures c.number.ensures)
 
-pub byte-requires : goal.byte-requires
-byte-requires c = tt
-
-pub returns : goal.returns
+pub returns-in-None : goal.returns-in-None
 unfolding revs_text
-returns c = rw c.if-revs.false (wrote_then c.byte-next.ensures c.byte.ensures)
+returns-in-None g c = rw c.in-None.is (added_then c.byte.ensures c.byte-in-None.ensures)

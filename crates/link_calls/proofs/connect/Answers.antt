@@ -16,7 +16,7 @@ returns-then-any_over c =
       known_len = c.requires;
       answers = λ x.
           let y = with_poller x (with_connection x.polling a.known.now a.ranges.now) in
-          answers (settled_here (box_of y a.core) _ 3 _ (sym c.any_over.ensures ∙ c.if-any_over.true) refl (refused_is y a.core _ 3 c.refuse.ensures));
+          answers (settled_here (box_of y a.core) _ 3 _ (sym c.any_over.ensures ∙ c.if-any_over.true) refl (refused_is y a.core _ _ c.refuse.ensures));
     }
 
 pub returns-then-open : goal.returns-then-open
@@ -27,7 +27,7 @@ returns-then-open c =
       answers = λ x.
           let y = with_poller x (with_connection x.polling a.known.now a.ranges.now) in
           answers (settled_next (box_of y a.core) _ 3 _ (sym c.any_over.ensures ∙ c.if-any_over.false)
-          (settled_here (box_of y a.core) _ 12 [] (sym c.open.ensures ∙ c.if-open.true) refl (refused_is y a.core _ 12 c.refuse-then-open.ensures)));
+          (settled_here (box_of y a.core) _ 12 [] (sym c.open.ensures ∙ c.if-open.true) refl (refused_is y a.core _ _ c.refuse-then-open.ensures)));
     }
 
 pub returns : goal.returns

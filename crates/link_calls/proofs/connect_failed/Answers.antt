@@ -15,7 +15,7 @@ returns-then-open c =
     λ x.
     let a = c.args in
     let y = with_poller x (with_ranges x.polling a.ranges.now) in
-    answers (settled_here (box_of y a.core) _ 12 [] (sym c.open.ensures ∙ c.if-open.true) refl (refused_is y a.core _ 12 c.refuse.ensures))
+    answers (settled_here (box_of y a.core) _ 12 [] (sym c.open.ensures ∙ c.if-open.true) refl (refused_is y a.core _ _ c.refuse.ensures))
 
 pub returns : goal.returns
 unfolding in_time row_refusal rows_of link_rows done_of link_by

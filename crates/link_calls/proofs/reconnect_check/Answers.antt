@@ -13,7 +13,7 @@ unfolding in_time row_refusal rows_of link_rows
 returns-then-open c =
     λ x.
     let a = c.args in
-    answers (settled_here (box_of x a.core) _ 12 [] (sym c.open.ensures ∙ c.if-open.true) refl (refused_is x a.core _ 12 c.refuse.ensures))
+    answers (settled_here (box_of x a.core) _ 12 [] (sym c.open.ensures ∙ c.if-open.true) refl (refused_is x a.core _ _ c.refuse.ensures))
 
 pub returns : goal.returns
 unfolding in_time row_refusal rows_of link_rows done_of link_by

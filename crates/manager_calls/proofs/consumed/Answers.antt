@@ -30,7 +30,7 @@ returns-then-refused c =
               λ z. refl,
               λ x.
                   let s = with_manager x a.table.now a.slots.now a.pids.now a.rates.now in
-                  own_refused (box_of s a.core) a.time (Consumed a.pid a.wait) 4 (sym (first_here 4 _ [] (sym c.refused.ensures ∙ c.if-refused.true))) (λ z. omega arith) (refused_is s a.core c.refuse.result 4 c.refuse.ensures),
+                  own_refused (box_of s a.core) a.time (Consumed a.pid a.wait) 4 (sym (first_here 4 _ [] (sym c.refused.ensures ∙ c.if-refused.true))) (λ z. omega arith) (refused_is s a.core c.refuse.result _ c.refuse.ensures),
             ),
           ),
         ),

@@ -28,7 +28,7 @@ returns-then-bad_profiles c =
               λ z. refl,
               λ x.
                   let s = with_manager x a.table.now a.slots.now a.pids.now a.rates.now in
-                  own_refused (box_of s a.core) a.time (Changed a.profiles) 2 (sym (first_here 2 _ _ (sym c.bad_profiles.ensures ∙ c.if-bad_profiles.true))) (λ z. omega arith) (refused_is s a.core c.refuse.result 2 c.refuse.ensures),
+                  own_refused (box_of s a.core) a.time (Changed a.profiles) 2 (sym (first_here 2 _ _ (sym c.bad_profiles.ensures ∙ c.if-bad_profiles.true))) (λ z. omega arith) (refused_is s a.core c.refuse.result _ c.refuse.ensures),
             ),
           ),
         ),

@@ -8,6 +8,7 @@ use Rattle.obd2.specs.Core.{with_manager, box_of}
 use Rattle.obd2.specs.Done.{without_values}
 use Rattle.obd2.specs.declared.Said.TheVariants.{Done}
 use Rattle.passes.specs.declared.Terms.{Terms}
+use Rattle.refusal.specs.declared.Refusal.TheVariants.{LineFull}
 use Rattle.report.specs.declared.summary.Summary.{Summary}
 use Rattle.manager_calls.proofs.tell.Goals as goal
 
@@ -37,7 +38,7 @@ returns-then-sent c =
                   let s = with_manager x a.table.now a.slots.now a.pids.now a.rates.now in
                   let l = with_manager x c.send-sent.new.table c.send-sent.new.slots c.send-sent.new.pids c.send-sent.new.rates in
                   sent_refused (box_of s k) a.time (without_values (box_of x k).desk a.profiles a.event Done) _ q h
-                  (handed_back s l k c.send-sent.result.manager c.send-sent.result.line 15 c.refuse.result refl refl (back_manager _ _ t a.event _ q h) (back_line _ _ t a.event _ q h) c.refuse.ensures),
+                  (handed_back s l k c.send-sent.result.manager c.send-sent.result.line LineFull c.refuse.result refl refl (back_manager _ _ t a.event _ q h) (back_line _ _ t a.event _ q h) c.refuse.ensures),
             ),
           ),
         ),

@@ -1,8 +1,4 @@
-use native.Mathlib.Omega.{arith}
-use borrow.Author.Tests.{eq-eqb, ne_eqb}
-use Prim.Native.Nat.{◌<◌}
-use mathlib.Core.Path.{◌≡◌, sym, ◌∙◌}
-use Rattle.pid_list.specs.Rules.{next_of}
+use Rattle.std.proofs.Common.{arith, ◌≡◌, ◌<◌}
 use Rattle.pid_list.specs.Laws.{wrap_lt, size_le}
 use Rattle.pid_list.proofs.next.Goals as goal
 use Rattle.pid_list.proofs.next.Goals.{After-wrapped-at}
@@ -13,17 +9,8 @@ small c =
     let z : (n ≡ 0 → ⊥) = c.if-n-eq0.false in
     omega (arith, wrap_lt c.args.l.index n (omega arith), size_le c.args.l.len)
 
-pub returns-then-n-eq0 : goal.returns-then-n-eq0
-unfolding next_of
-returns-then-n-eq0 c = simp (eq-eqb _ _ (sym c.size-n.ensures ∙ c.if-n-eq0.true))
-
 pub bounds-l-at : goal.bounds-l-at
 bounds-l-at c = omega (arith, small (goal.at.bounds-l-at c).After-wrapped-at)
 
 pub overflow_add-at : goal.overflow_add-at
 overflow_add-at c = omega (arith, small (goal.at.overflow_add-at c).After-wrapped-at)
-
-pub returns : goal.returns
-unfolding next_of
-returns c =
-    simp (c.wrapped-w.ensures, c.wrapped-at.ensures, c.size-n.ensures, ne_eqb _ _ (rw c.size-n.ensures at c.if-n-eq0.false))

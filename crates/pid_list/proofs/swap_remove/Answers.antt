@@ -1,23 +1,30 @@
-use native.Mathlib.Omega.{arith}
-use borrow.Author.Tests.{lt-ltb, le-ltb}
-use Rattle.pid_list.specs.Rules.{swap_out, entries}
-use Rattle.pid_list.specs.Laws.{size_le}
+use Rattle.std.proofs.Common.{arith, sym, ◌≡◌, ◌∙◌, length, take, lt-ltb, le-ltb}
+use Rattle.pid_list.specs.Rules.{size_of, place, swap_out, entries}
+use Rattle.pid_list.specs.Laws.{size_le, size_entries, placed, unplaced}
+use borrow.Author.Rules.{rules}
 use Rattle.pid_list.proofs.swap_remove.Goals as goal
+use Rattle.pid_list.proofs.swap_remove.Goals.{Start}
 
-pub bounds-l-last : goal.bounds-l-last
-bounds-l-last c = omega (arith, size_le c.args.l.len)
+long : (c : Start) → length c.args.l.pids ≡ 256
+long c = search rules
 
-pub bounds-l-at : goal.bounds-l-at
-bounds-l-at c = omega (arith, size_le c.args.l.len)
+pub shared_ref_as_front-find : goal.shared_ref_as_front-find
+shared_ref_as_front-find c = omega (arith, size_le c.args.l.len)
 
-pub returns-then-at-n : goal.returns-then-at-n
+pub returns-in-Some : goal.returns-in-Some
 unfolding swap_out entries
-returns-then-at-n c =
-    let n = c.size-n in
-    simp (c.find-at.ensures, n.ensures, lt-ltb _ _ (simp (c.find-at.ensures, n.ensures) at c.if-at-n.true))
+returns-in-Some c =
+    let l = c.args.l in
+    let e = rw c.size-n.ensures at (sym c.find.ensures ∙ c.in-Some.is) in
+    let q = placed (take (size_of l.len) l.pids) c.args.pid c.in-Some.at e in
+    let t = size_entries l (long (goal.at.returns-in-Some c).Start) in
+    rw (c.size-n.ensures, q.0, lt-ltb (place (entries l) c.args.pid) (size_of l.len) (omega arith))
 
-pub returns-else-at-n : goal.returns-else-at-n
+pub returns-in_default : goal.returns-in_default
 unfolding swap_out entries
-returns-else-at-n c =
-    let n = c.size-n in
-    simp (n.ensures, le-ltb _ _ (simp (c.find-at.ensures, n.ensures) at c.if-at-n.false))
+returns-in_default c =
+    let l = c.args.l in
+    let e = rw c.size-n.ensures at (sym c.find.ensures ∙ c.in_default.is) in
+    let q = unplaced (take (size_of l.len) l.pids) c.args.pid e in
+    let t = size_entries l (long (goal.at.returns-in_default c).Start) in
+    rw (c.size-n.ensures, le-ltb (place (entries l) c.args.pid) (size_of l.len) (omega arith))

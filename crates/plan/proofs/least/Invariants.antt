@@ -1,11 +1,6 @@
-use Prim.Native.Nat.{◌-◌, ◌≤◌}
-use mathlib.Core.Path.{◌≡◌}
-use lib.ListN.{drop}
+use Rattle.std.proofs.Common.{◌≡◌, drop}
 use Rattle.plan.specs.Steps.{key_in, line_of, least_in, least_from}
 use Rattle.plan.proofs.least.Given as goal
 
-abbrev pub invariant-loop-i : goal.invariant-loop-i
-invariant-loop-i l = (l.i ≤ l.n) × (least_from (key_in l.p) l.above l.best (drop l.i (line_of l.p)) ≡ least_in l.p l.above)
-
-abbrev pub decreases-loop-i : goal.decreases-loop-i
-decreases-loop-i l = l.n - l.i
+abbrev pub invariant-loop-pid : goal.invariant-loop-pid
+invariant-loop-pid l = least_from (key_in l.fn.p) l.above l.best (drop l.pid-index (line_of l.fn.p)) ≡ least_in l.fn.p l.above

@@ -28,7 +28,7 @@ pub loop-at-preserved-in-Nothing : goal.loop-at-preserved-in-Nothing
 loop-at-preserved-in-Nothing g c =
     let u = used _ _ _ _ _ c.loop-at-test.true c.feed-fed.ensures.value in
     let i = c.loop-at.invariant in
-    (u.1, c.feed-fed.auto.line ∙ i.1, c.take_line.auto.bytes ∙ i.2, i.3, i.4, i.5)
+    (u.1, c.feed-fed.auto.line ∙ i.1, c.take_line.auto.bytes ∙ i.2, i.3, i.4)
 
 pub loop-at-smaller-in-Bad : goal.loop-at-smaller-in-Bad
 loop-at-smaller-in-Bad g c =
@@ -38,7 +38,7 @@ pub loop-at-preserved-in-Bad : goal.loop-at-preserved-in-Bad
 loop-at-preserved-in-Bad g c =
     let u = used _ _ _ _ _ c.loop-at-test.true c.feed-fed.ensures.value in
     let i = c.loop-at.invariant in
-    (u.1, c.feed-fed.auto.line ∙ i.1, c.take_line.auto.bytes ∙ i.2, i.3, c.bad_line.auto.out ∙ i.4, i.5)
+    (u.1, c.feed-fed.auto.line ∙ i.1, c.take_line.auto.bytes ∙ i.2, i.3, i.4)
 
 pub loop-at-smaller-in-Show : goal.loop-at-smaller-in-Show
 loop-at-smaller-in-Show g c =
@@ -48,7 +48,7 @@ pub loop-at-preserved-in-Show : goal.loop-at-preserved-in-Show
 loop-at-preserved-in-Show g c =
     let u = used _ _ _ _ _ c.loop-at-test.true c.feed-fed.ensures.value in
     let i = c.loop-at.invariant in
-    (u.1, c.feed-fed.auto.line ∙ i.1, c.take_line.auto.bytes ∙ i.2, i.3, c.show.auto.out ∙ i.4, i.5)
+    (u.1, c.feed-fed.auto.line ∙ i.1, c.take_line.auto.bytes ∙ i.2, i.3, i.4)
 
 pub loop-at-smaller-in-Start : goal.loop-at-smaller-in-Start
 loop-at-smaller-in-Start g c =
@@ -58,13 +58,12 @@ pub loop-at-preserved-in-Start : goal.loop-at-preserved-in-Start
 loop-at-preserved-in-Start g c =
     let u = used _ _ _ _ _ c.loop-at-test.true c.feed-fed.ensures.value in
     let i = c.loop-at.invariant in
-    let w = i.5 in
+    let w = i.4 in
     let e = c.start-last.ensures in (
       u.1,
       c.feed-fed.auto.line ∙ i.1,
       c.take_line.auto.bytes ∙ i.2,
       i.3,
-      c.tell-notes.auto.out ∙ i.4,
       record {
         marks = e.marks_len;
         table = e.table_len;
@@ -83,4 +82,4 @@ loop-at-preserved g c =
     let u = used _ _ _ _ _ c.loop-at-test.true c.feed-fed.ensures.value in
     let i = c.loop-at.invariant in
     let l = length_front c.loop-at.area c.call-last.new.area c.least-m.result c.call-last.auto.area in
-    (u.1, c.feed-fed.auto.line ∙ i.1, c.take_line.auto.bytes ∙ i.2, l ∙ i.3, c.tell-notes-in-Call.auto.out ∙ i.4, c.call-last.ensures.whole)
+    (u.1, c.feed-fed.auto.line ∙ i.1, c.take_line.auto.bytes ∙ i.2, l ∙ i.3, c.call-last.ensures.whole)

@@ -15,7 +15,7 @@ returns-then-open c =
       polled_len = c.requires;
       answers = λ x.
           let y = with_line x a.slots.now a.polled.now in
-          answers (settled_here (box_of y a.core) _ 12 [] (sym c.open.ensures ∙ c.if-open.true) refl (refused_is y a.core _ 12 c.refuse.ensures));
+          answers (settled_here (box_of y a.core) _ 12 [] (sym c.open.ensures ∙ c.if-open.true) refl (refused_is y a.core _ _ c.refuse.ensures));
     }
 
 pub returns : goal.returns

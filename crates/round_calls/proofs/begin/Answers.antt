@@ -22,7 +22,7 @@ returns-then-open c =
         c.requires.known_len,
         λ x ranges.
             let y = with_poller x (held a.polled.now a.known.now a.order.now ranges) in
-            answers (settled_here (box_of y a.core) _ 12 [] (sym c.open.ensures ∙ c.if-open.true) refl (refused_is y a.core _ 12 c.refuse.ensures)),
+            answers (settled_here (box_of y a.core) _ 12 [] (sym c.open.ensures ∙ c.if-open.true) refl (refused_is y a.core _ _ c.refuse.ensures)),
       ),
     ))
 

@@ -15,7 +15,7 @@ returns-then-out_of_turn c =
     λ x ranges.
     let a = c.args in
     let y = with_poller x (held a.polled.now a.known.now a.order.now ranges) in
-    answers (settled_here (box_of y a.core) _ 13 [] (sym c.out_of_turn.ensures ∙ c.if-out_of_turn.true) refl (refused_is y a.core _ 13 c.refuse.ensures))
+    answers (settled_here (box_of y a.core) _ 13 [] (sym c.out_of_turn.ensures ∙ c.if-out_of_turn.true) refl (refused_is y a.core _ _ c.refuse.ensures))
 
 pub returns : goal.returns
 unfolding in_time row_refusal rows_of round_rows done_of round_by

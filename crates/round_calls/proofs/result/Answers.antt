@@ -22,7 +22,7 @@ returns-then-not-due c =
         c.requires.known_len,
         λ x order.
             let y = with_poller x (held a.polled.now a.known.now order a.ranges.now) in
-            answers (settled_here (box_of y a.core) _ 13 [] (ap not (sym c.due.ensures) ∙ c.if-not-due.true-raw) refl (refused_is y a.core _ 13 c.refuse.ensures)),
+            answers (settled_here (box_of y a.core) _ 13 [] (ap not (sym c.due.ensures) ∙ c.if-not-due.true-raw) refl (refused_is y a.core _ _ c.refuse.ensures)),
       ),
     ))
 

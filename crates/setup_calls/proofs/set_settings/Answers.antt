@@ -13,7 +13,7 @@ unfolding in_time row_refusal rows_of
 returns-then-unknown_mode c =
     λ x.
     let a = c.args in
-    answers (settled_here (box_of x a.core) _ 2 [] (sym c.unknown_mode.ensures ∙ c.if-unknown_mode.true) refl (refused_is x a.core _ 2 c.refuse.ensures))
+    answers (settled_here (box_of x a.core) _ 2 [] (sym c.unknown_mode.ensures ∙ c.if-unknown_mode.true) refl (refused_is x a.core _ _ c.refuse.ensures))
 
 pub returns : goal.returns
 unfolding in_time row_refusal rows_of done_of

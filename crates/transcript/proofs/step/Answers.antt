@@ -1,26 +1,30 @@
 -- `transcript::step` meets its contract.
-use Rattle.transcript.specs.Lines.{step_text, step_line, stepped_of, tail_text}
-use Rattle.base.specs.Write.{over_one}
+use Rattle.transcript.specs.Lines.{step_text, step_line}
+use Rattle.transcript.specs.Laws.{tail_length}
+use Rattle.writing.specs.Added.{added_fits}
 use borrow.Author.Tests.{eq-eqb, ne_eqb}
 use mathlib.Core.Path.{sym, ap, ◌∙◌}
+use lib.ListN.{length}
 use native.Mathlib.Omega.{arith}
 use Rattle.transcript.proofs.step.Goals as goal
 
 pub returns-then-b-eq10 : goal.returns-then-b-eq10
-unfolding stepped_of step_text step_line
-returns-then-b-eq10 c =
+unfolding step_text step_line
+returns-then-b-eq10 g c =
     let e = eq-eqb _ _ c.if-b-eq10.true in
-    let w = c.tail.ensures.result_value ∙ ap tail_text c.class_of.ensures in
+    let h = c.requires in
+    let n = tail_length c.class_of.result in
     record {
-      value = rw (e, c.start.ensures, c.put-next.ensures.value, w);
-      out_after = rw (e, c.put-next.ensures.out_after, w);
+      value = rw (e, c.start.ensures);
+      out_after = rw (e, ← c.class_of.ensures) (c.tail.ensures.text_is ∙ added_fits _ _ _ (omega arith));
     }
 
 pub returns : goal.returns
-unfolding stepped_of step_text step_line
-returns c =
+unfolding step_text step_line
+returns g c =
     let e = ne_eqb _ _ c.if-b-eq10.false in
+    let h = c.requires in
     record {
       value = rw (e, c.keep.ensures);
-      out_after = rw e (sym (over_one c.args.out.now c.args.at c.args.b (omega arith)));
+      out_after = rw e (c.byte.ensures.text_is ∙ added_fits _ _ _ (omega arith));
     }

@@ -1,21 +1,19 @@
 -- `transcript::tail` meets its contract: the bytes of each case are written out.
-use mathlib.Core.Path.{sym, ap}
-use Rattle.transcript.specs.Lines.{text_of, tail_text, class_name, number_text}
-use native.Mathlib.Omega.{arith}
+use Rattle.transcript.specs.Lines.{tail_text, class_name, number_text}
+use Rattle.writing.specs.Added.{added_then}
 use Rattle.transcript.proofs.tail.Goals as goal
 
 pub returns-in-Range : goal.returns-in-Range
-unfolding text_of tail_text class_name number_text
-returns-in-Range c = record { result_value = sym (ap tail_text c.in-Range.is); len_in_bounds = omega arith }
+unfolding tail_text class_name number_text
+returns-in-Range g c = rw c.in-Range.is (added_then c.put.ensures (added_then c.byte.ensures c.byte-in-Range.ensures))
 
 pub returns-in-Pid : goal.returns-in-Pid
-unfolding text_of tail_text class_name number_text
-returns-in-Pid c =
-    record {
-      result_value = simp (c.hex_digit-low.ensures, c.hex_digit-high.ensures) (sym (ap tail_text c.in-Pid.is));
-      len_in_bounds = omega arith;
-    }
+unfolding tail_text class_name number_text
+returns-in-Pid g c =
+    let high = rw c.hex_digit.ensures at c.byte-in-Pid.ensures in
+    let low = rw c.hex_digit-in-Pid.ensures at c.byte-in-Pid-2.ensures in
+    rw c.in-Pid.is (added_then c.put-in-Pid.ensures (added_then high (added_then low c.byte-in-Pid-3.ensures)))
 
 pub returns-in-Unknown : goal.returns-in-Unknown
-unfolding text_of tail_text class_name number_text
-returns-in-Unknown c = record { result_value = sym (ap tail_text c.in-Unknown.is); len_in_bounds = omega arith }
+unfolding tail_text class_name number_text
+returns-in-Unknown g c = rw c.in-Unknown.is c.put-in-Unknown.ensures

@@ -1,7 +1,6 @@
 -- `writing::put` meets its contract. The invariant: what is left of the text.
 use Rattle.writing.specs.Fill.{left_all, left_next, left_none, next_byte}
 use lib.ListN.{drop_of_length-le}
-use Prim.Native.Nat.{◌-◌}
 use native.Mathlib.Omega.{arith}
 use Rattle.writing.proofs.put.Goals as goal
 

@@ -1,15 +1,12 @@
 -- `writing_lists::comma` meets its contract.
-use Rattle.writing.specs.Fill.{wrote_none}
+use Rattle.writing.specs.Added.{added_all}
 use Rattle.writing_lists.specs.Parted.{comma_text}
 use Rattle.writing_lists.proofs.comma.Goals as goal
 
-pub byte-requires : goal.byte-requires
-byte-requires c = tt
-
 pub returns-then-more : goal.returns-then-more
 unfolding comma_text
-returns-then-more c = rw c.if-more.true c.byte.ensures
+returns-then-more g c = rw c.if-more.true c.byte.ensures
 
-pub returns : goal.returns
+pub returns-else-more : goal.returns-else-more
 unfolding comma_text
-returns c = rw c.if-more.false (wrote_none _ _)
+returns-else-more g c = rw c.if-more.false (added_all _ _)

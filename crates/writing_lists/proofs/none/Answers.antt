@@ -1,15 +1,12 @@
 -- `writing_lists::none` meets its contract.
-use Rattle.writing.specs.Fill.{wrote_none}
+use Rattle.writing.specs.Added.{added_all}
 use Rattle.writing_lists.specs.Parted.{none_text}
 use Rattle.writing_lists.proofs.none.Goals as goal
 
-pub returns-then-some : goal.returns-then-some
+pub returns-then-not-some : goal.returns-then-not-some
 unfolding none_text
-returns-then-some c = rw c.if-some.true (wrote_none _ _)
+returns-then-not-some g c = rw c.if-not-some.true c.byte.ensures
 
-pub byte-requires : goal.byte-requires
-byte-requires c = tt
-
-pub returns : goal.returns
+pub returns-else-not-some : goal.returns-else-not-some
 unfolding none_text
-returns c = rw c.if-some.false c.byte.ensures
+returns-else-not-some g c = rw c.if-not-some.false (added_all _ _)

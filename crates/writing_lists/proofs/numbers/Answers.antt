@@ -1,33 +1,19 @@
 -- `writing_lists::numbers` meets its contract. The invariant: what is left of the list.
-use Rattle.writing.specs.Fill.{left_all, left_next, left_last}
-use Rattle.writing_lists.specs.Parted.{numbers_text, each_next, each_end}
+use Rattle.writing.specs.Added.{left_all, left_next, left_last}
 use Rattle.numeral.specs.Decimal.{decimal_text}
+use Rattle.writing_lists.specs.Parted.{numbers_text, each_next, each_end}
 use mathlib.Core.Path.{refl}
-use Prim.Native.Nat.{◌-◌}
-use native.Mathlib.Omega.{arith}
 use Rattle.writing_lists.proofs.numbers.Goals as goal
 
-pub loop-i-init : goal.loop-i-init
+pub loop-number-init : goal.loop-number-init
 unfolding numbers_text
-loop-i-init c = (omega arith, omega arith, left_all _ _ _)
+loop-number-init g c = left_all _ _ _
 
-pub comma-place-requires : goal.comma-place-requires
-comma-place-requires c = tt
-
-pub wide-requires : goal.wide-requires
-wide-requires c = tt
-
-pub number-place-requires : goal.number-place-requires
-number-place-requires c = tt
-
-pub loop-i-preserved : goal.loop-i-preserved
-loop-i-preserved c =
-    let l = left_next c.loop-i.invariant.2 (each_next decimal_text c.args.numbers.now c.loop-i.more c.loop-i.i 0 (omega arith)) c.comma-place.ensures in
-    (omega arith, omega arith, left_next l refl (rw c.wide.ensures at c.number-place.ensures))
-
-pub none-requires : goal.none-requires
-none-requires c = tt
+pub loop-number-preserved : goal.loop-number-preserved
+loop-number-preserved g c =
+    let l = left_next c.loop-number.invariant (each_next decimal_text c.args.numbers.now c.loop-number.more c.loop-number.number-index 0 c.loop-number-test.true) c.comma.ensures in
+    left_next l refl (rw c.from.ensures at c.number.ensures)
 
 pub returns : goal.returns
-returns c =
-    left_last c.loop-i.invariant.2 (each_end decimal_text c.args.numbers.now c.loop-i.more c.loop-i.i (omega arith)) c.none.ensures
+returns g c =
+    left_last c.loop-number.invariant (each_end decimal_text c.args.numbers.now c.loop-number.more c.loop-number.number-index c.loop-number-test.false) c.none.ensures

@@ -1,30 +1,19 @@
 -- `writing_lists::pids` meets its contract. The invariant: what is left of the list.
-use Rattle.writing.specs.Fill.{left_all, left_next, left_last}
+use Rattle.writing.specs.Added.{left_all, left_next, left_last}
 use Rattle.writing_pairs.specs.Pairs.{pid_text}
 use Rattle.writing_lists.specs.Parted.{pids_text, each_next, each_end}
 use mathlib.Core.Path.{refl}
-use Prim.Native.Nat.{◌-◌}
-use native.Mathlib.Omega.{arith}
 use Rattle.writing_lists.proofs.pids.Goals as goal
 
-pub loop-i-init : goal.loop-i-init
+pub loop-pid-init : goal.loop-pid-init
 unfolding pids_text
-loop-i-init c = (omega arith, omega arith, left_all _ _ _)
+loop-pid-init g c = left_all _ _ _
 
-pub comma-place-requires : goal.comma-place-requires
-comma-place-requires c = tt
-
-pub pair-place-requires : goal.pair-place-requires
-pair-place-requires c = tt
-
-pub loop-i-preserved : goal.loop-i-preserved
-loop-i-preserved c =
-    let l = left_next c.loop-i.invariant.2 (each_next pid_text c.args.pids.now c.loop-i.more c.loop-i.i 0 (omega arith)) c.comma-place.ensures in
-    (omega arith, omega arith, left_next l refl c.pair-place.ensures)
-
-pub none-requires : goal.none-requires
-none-requires c = tt
+pub loop-pid-preserved : goal.loop-pid-preserved
+loop-pid-preserved g c =
+    let l = left_next c.loop-pid.invariant (each_next pid_text c.args.pids.now c.loop-pid.more c.loop-pid.pid-index 0 c.loop-pid-test.true) c.comma.ensures in
+    left_next l refl c.pair.ensures
 
 pub returns : goal.returns
-returns c =
-    left_last c.loop-i.invariant.2 (each_end pid_text c.args.pids.now c.loop-i.more c.loop-i.i (omega arith)) c.none.ensures
+returns g c =
+    left_last c.loop-pid.invariant (each_end pid_text c.args.pids.now c.loop-pid.more c.loop-pid.pid-index c.loop-pid-test.false) c.none.ensures

@@ -1,15 +1,10 @@
 -- `writing_pairs::bytes` meets its contract.
+use Rattle.std.proofs.Common.{rules}
 use Rattle.writing_pairs.specs.Pairs.{bytes_none, bytes_some}
 use Rattle.writing_pairs.proofs.bytes.Goals as goal
 
-pub byte-requires : goal.byte-requires
-byte-requires c = tt
+pub returns-then-is_empty : goal.returns-then-is_empty
+returns-then-is_empty g c = rw (bytes_none c.args.bytes.now (search rules)) c.byte.ensures
 
-pub returns-then-bytes-eq0 : goal.returns-then-bytes-eq0
-returns-then-bytes-eq0 c = rw (bytes_none _ c.if-bytes-eq0.true) c.byte.ensures
-
-pub pairs-requires : goal.pairs-requires
-pairs-requires c = tt
-
-pub returns : goal.returns
-returns c = rw (bytes_some _ c.if-bytes-eq0.false) c.pairs.ensures
+pub returns-else-is_empty : goal.returns-else-is_empty
+returns-else-is_empty g c = rw (bytes_some c.args.bytes.now (search rules)) c.pairs.ensures

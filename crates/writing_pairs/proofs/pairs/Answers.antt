@@ -1,19 +1,13 @@
 -- `writing_pairs::pairs` meets its contract. The invariant: what is left of the bytes.
-use Rattle.writing.specs.Fill.{left_all, left_next, left_none}
+use Rattle.writing.specs.Added.{left_all, left_next, left_none}
 use Rattle.writing_pairs.specs.Pairs.{pairs_next, pairs_end}
-use Prim.Native.Nat.{◌-◌}
-use native.Mathlib.Omega.{arith}
 use Rattle.writing_pairs.proofs.pairs.Goals as goal
 
-pub loop-i-init : goal.loop-i-init
-loop-i-init c = (omega arith, omega arith, left_all _ _ _)
+pub loop-b-init : goal.loop-b-init
+loop-b-init g c = left_all _ _ _
 
-pub pair-place-requires : goal.pair-place-requires
-pair-place-requires c = tt
-
-pub loop-i-preserved : goal.loop-i-preserved
-loop-i-preserved c =
-    (omega arith, omega arith, left_next c.loop-i.invariant.2 (pairs_next _ c.loop-i.i (omega arith)) c.pair-place.ensures)
+pub loop-b-preserved : goal.loop-b-preserved
+loop-b-preserved g c = left_next c.loop-b.invariant (pairs_next _ c.loop-b.b-index c.loop-b-test.true) c.pair.ensures
 
 pub returns : goal.returns
-returns c = left_none c.loop-i.invariant.2 (pairs_end _ c.loop-i.i (omega arith))
+returns g c = left_none c.loop-b.invariant (pairs_end _ c.loop-b.b-index c.loop-b-test.false)

@@ -1,6 +1,5 @@
 use native.Mathlib.Omega.{arith}
 use mathlib.Core.Path.{ap, sym, ◌∙◌}
-use Prim.Native.Nat.{◌-◌}
 use Rattle.delivery.specs.Cases.{listed_le, response_refused}
 use Rattle.delivery.specs.Turns.{answer_whole}
 use Rattle.delivery.specs.Evaluation.{evaluated_of, evaluated_start, evaluated_next}

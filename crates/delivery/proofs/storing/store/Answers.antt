@@ -1,6 +1,5 @@
 use native.Mathlib.Omega.{arith}
 use mathlib.Core.Path.{sym, ◌∙◌}
-use Prim.Native.Nat.{◌-◌}
 use Rattle.desk.specs.Core.{desk_of}
 use Rattle.delivery.specs.Cases.{listed_le}
 use Rattle.delivery.specs.Turns.{answer_whole}

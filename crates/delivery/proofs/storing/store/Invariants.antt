@@ -1,5 +1,5 @@
 use mathlib.Core.Path.{◌≡◌}
-use Prim.Native.Nat.{◌≤◌, ◌-◌}
+use Prim.Native.Nat.{◌≤◌}
 use lib.ListN.{length}
 use Rattle.clients.specs.Rules.{places}
 use Rattle.config.specs.declared.Profiles.{Profiles}
@@ -15,6 +15,3 @@ invariant-loop-i l = (l.i ≤ l.n)
     × (l.n ≤ max_pids)
     × (length l.marks ≡ places)
     × ((k : Core) (ps : Profiles) → k.clients ≡ l.clients → Held l.replies l.marks k (answer_after l.i (desk_of l.initial.replies l.initial.marks k) ps l.response).desk)
-
-abbrev pub decreases-loop-i : goal.decreases-loop-i
-decreases-loop-i l = l.n - l.i

@@ -11,6 +11,7 @@ use Rattle.obd2.specs.Core.{lent, box_of}
 use Rattle.obd2.specs.Done.{manager_by}
 use Rattle.obd2.specs.Refusals.{manager_rows}
 use Rattle.passes.specs.declared.Terms.{Terms}
+use Rattle.refusal.specs.declared.Refusal.TheVariants.{LineFull}
 use Rattle.report.specs.declared.summary.Summary.{Summary}
 use Rattle.desk_calls.proofs.leaving.leave.Goals as goal
 
@@ -44,7 +45,7 @@ returns-then-sent c =
                     let s = box_of x k in
                     own_settled s a.time (Leave a.number) 0 (sym first_none) refl
                     (sent_refused s a.time (manager_by s (Leave a.number)) _ q h
-                    (handed_back x (lent replies a.marks.now c.send-sent.new.table c.send-sent.new.slots polling c.send-sent.new.pids c.send-sent.new.rates) k c.send-sent.result.manager c.send-sent.result.line 15 c.refuse.result refl refl (back_manager _ _ t Nothing _ q h) (back_line _ _ t Nothing _ q h) c.refuse.ensures)),
+                    (handed_back x (lent replies a.marks.now c.send-sent.new.table c.send-sent.new.slots polling c.send-sent.new.pids c.send-sent.new.rates) k c.send-sent.result.manager c.send-sent.result.line LineFull c.refuse.result refl refl (back_manager _ _ t Nothing _ q h) (back_line _ _ t Nothing _ q h) c.refuse.ensures)),
               ),
             ),
           ),

@@ -1,4 +1,6 @@
-use Rattle.std.specs.Prelude.{◌≡◌}
+use Rattle.std.specs.Prelude.{◌≡◌, []}
+use Rattle.desk.specs.Rules.{register_refusal}
+use Rattle.obd2.specs.Listed.{first_listed}
 use mathlib.Core.Path.{refl, ap, sym, ◌∙◌}
 use Rattle.control_line.specs.Rows.{line_of}
 use Rattle.manager.specs.Rows.{manager_of}
@@ -7,9 +9,10 @@ use Rattle.manager_calls.specs.Send.{back_manager, back_line, back_report, no_ra
 use Rattle.manager_calls.specs.Settle.{sent_refused, sent_done, handed_back, own_refused, own_settled}
 use Rattle.desk_calls.specs.Desk.{register_told, registered}
 use Rattle.obd2.specs.Call.{Register}
-use Rattle.obd2.specs.Core.{lent, box_of, refused_is}
+use Rattle.obd2.specs.Core.{lent, box_of, refused_by}
 use Rattle.obd2.specs.Done.{manager_by}
 use Rattle.passes.specs.declared.Terms.{Terms}
+use Rattle.refusal.specs.declared.Refusal.TheVariants.{LineFull}
 use Rattle.report.specs.declared.summary.Summary.{Summary}
 use borrow.Author.Rules.{rules}
 use Rattle.desk_calls.proofs.registering.register.Goals as goal
@@ -17,6 +20,10 @@ use Rattle.desk_calls.proofs.registering.register.Goals as goal
 -- The clauses, each under its name.
 named_marks_len_2_table_len_2_pids_len_2_rates_len_2_pids_unchanged_rates_unchanged_by_index : {A B C D E F G : Type 0} → A × (B × (C × (D × (E × (F × G))))) → record { marks_len_2 : A; table_len_2 : B; pids_len_2 : C; rates_len_2 : D; pids_unchanged : E; rates_unchanged : F; by_index : G }
 named_marks_len_2_table_len_2_pids_len_2_rates_len_2_pids_unchanged_rates_unchanged_by_index p = record { marks_len_2 = p.0; table_len_2 = p.1.0; pids_len_2 = p.1.1.0; rates_len_2 = p.1.1.1.0; pids_unchanged = p.1.1.1.1.0; rates_unchanged = p.1.1.1.1.1.0; by_index = p.1.1.1.1.1.1 }
+
+pub numbered-requires-clause-listed : goal.numbered-requires-clause-listed
+unfolding register_refusal
+numbered-requires-clause-listed c = rw (c.refusal-number.ensures [] []) (first_listed _ refl)
 
 pub returns-then-number-ne0 : goal.returns-then-number-ne0
 returns-then-number-ne0 c =
@@ -35,7 +42,7 @@ returns-then-number-ne0 c =
                 λ replies polling.
                     let x = lent replies a.marks.now a.table.now a.slots.now polling a.pids.now a.rates.now in
                     let s = box_of x a.core in
-                    own_refused s a.time Register c.refusal-number.result (register_told s _ (c.refusal-number.ensures replies a.marks.now)) c.if-number-ne0.true (refused_is x a.core c.refuse.result _ c.refuse.ensures),
+                    own_refused s a.time Register c.refusal-number.result (register_told s _ (c.refusal-number.ensures replies a.marks.now)) c.if-number-ne0.true (refused_by x a.core c.refuse.result _ _ c.numbered.ensures c.refuse.ensures),
               ),
             ),
           ),
@@ -70,7 +77,7 @@ returns-then-sent c =
                     let s = box_of x k in
                     own_settled s a.time Register n.result (register_told s _ (n.ensures replies a.marks.now)) c.if-number-ne0.false
                     (sent_refused s a.time (manager_by s Register) _ q h
-                    (handed_back x (lent replies a.marks.now c.send-sent.new.table c.send-sent.new.slots polling c.send-sent.new.pids c.send-sent.new.rates) k c.send-sent.result.manager c.send-sent.result.line 15 c.refuse-then-sent.result refl refl (back_manager _ _ t Nothing _ q h) (back_line _ _ t Nothing _ q h) c.refuse-then-sent.ensures)),
+                    (handed_back x (lent replies a.marks.now c.send-sent.new.table c.send-sent.new.slots polling c.send-sent.new.pids c.send-sent.new.rates) k c.send-sent.result.manager c.send-sent.result.line LineFull c.refuse-then-sent.result refl refl (back_manager _ _ t Nothing _ q h) (back_line _ _ t Nothing _ q h) c.refuse-then-sent.ensures)),
               ),
             ),
           ),

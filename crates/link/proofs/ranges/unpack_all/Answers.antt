@@ -9,7 +9,7 @@ use Rattle.reply.specs.Rules.{no_range}
 use Rattle.link.proofs.ranges.unpack_all.Goals as goal
 
 pub loop-i-init : goal.loop-i-init
-loop-i-init c = (omega arith, ap length c.no_ranges-ranges.ensures ∙ none_length, refl)
+loop-i-init c = (ap length c.no_ranges-ranges.ensures ∙ none_length, refl)
 
 pub loop-i-preserved : goal.loop-i-preserved
 loop-i-preserved c =
@@ -18,10 +18,9 @@ loop-i-preserved c =
     let i = c.loop-i.i in
     let l : length rows ≡ 8 = search rules in
     let n = ranges_length rows in
-    let long = c.loop-i.invariant.1 in (
-      omega arith,
+    let long = c.loop-i.invariant.0 in (
       simp length-set long,
-      filled_more ranges (ranges_of rows) i c.unpack_range-range.result no_range (omega arith) (omega arith) (c.unpack_range-range.ensures ∙ sym (range_at rows i)) c.loop-i.invariant.2,
+      filled_more ranges (ranges_of rows) i c.unpack_range.result no_range (omega arith) (omega arith) (c.unpack_range.ensures ∙ sym (range_at rows i)) c.loop-i.invariant.1,
     )
 
 pub returns : goal.returns
@@ -29,5 +28,4 @@ returns c =
     let rows = c.args.rows in
     let l : length rows ≡ 8 = search rules in
     let n = ranges_length rows in
-    let long = c.loop-i.invariant.1 in
-    filled_all c.loop-i.ranges (ranges_of rows) c.loop-i.i (omega arith) (omega arith) c.loop-i.invariant.2
+    filled_all c.loop-i.ranges (ranges_of rows) c.loop-i.i (omega arith) (omega arith) c.loop-i.invariant.1

@@ -1,6 +1,5 @@
 use mathlib.Core.Path.{refl}
 use Rattle.std.specs.Prelude.{◌≡◌, length}
-use borrow.Author.Tests.{not-true, not-false}
 use Rattle.clients.specs.Rules.{places}
 use Rattle.waits.specs.Ending.{stranger_gives_up, idle_gives_up, gives_up}
 use borrow.Author.Rules.{rules}
@@ -16,16 +15,16 @@ returns-in_default c =
     let a = c.args in
     stranger_gives_up replies marks a.core a.number _ refl c.in_default.ensures
 
-pub returns-then-not-wait : goal.returns-then-not-wait
-returns-then-not-wait c =
+pub returns-in_default-wait : goal.returns-in_default-wait
+returns-in_default-wait c =
     λ replies marks.
     let a = c.args in
     let f = c.in-Some.ensures in
-    idle_gives_up replies marks a.core a.number _ f.0 f.1 (whole (goal.at.returns-then-not-wait c).In-Some) (not-true _ c.if-not-wait.true)
+    idle_gives_up replies marks a.core a.number _ f.0 f.1 (whole (goal.at.returns-in_default-wait c).In-Some) c.in_default-wait.is
 
 pub returns : goal.returns
 returns c =
     λ replies marks.
     let a = c.args in
     let f = c.in-Some.ensures in
-    gives_up replies marks a.core a.number _ f.0 f.1 (whole (goal.at.returns c).In-Some) c.end_wait-idle.result c.end_wait-idle.ensures (not-false _ c.if-not-wait.false)
+    gives_up replies marks a.core a.number _ f.0 f.1 (whole (goal.at.returns c).In-Some) c.end_wait-idle.result c.end_wait-idle.ensures _ c.in-Some-wait.is

@@ -1,4 +1,0 @@
-use Rattle.obd2.proofs.telling.refuse.Goals as goal
-
-pub returns : goal.returns
-returns c = rw c.no_notes-notes.ensures
