@@ -1,7 +1,7 @@
 -- Letters and hex digits in ASCII: `0` is 48, `9` 57, `A` 65, `F` 70, `a` 97, `f` 102, `z` 122.
 use Rattle.std.specs.Prelude.{Bool, true, false, ◌&&◌, ◌≡◌, ℕ, ◌+◌, ◌-◌, ◌%◌, ◌≤◌, ◌<◌, leb, ltb, nat_lt, Option, Some, None, unwrap_or}
 use Rattle.std.specs.Char.{to_ascii_uppercase}
-use Rattle.std.proofs.Common.{arith, ap, sym, ◌∙◌, leb-true, le-leb, lt-ltb, ltb-true, ltb-false}
+use Rattle.std.proofs.Common.{arith, ap, sym, ◌∙◌, leb-true, le-leb, ltb-true, ltb-false}
 use Rattle.std.proofs.lemmas.Option.{none-some}
 use Rattle.base.specs.Choice.{pick, cases, false_true}
 
