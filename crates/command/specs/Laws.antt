@@ -1,5 +1,5 @@
 -- Laws of the definitions of `Classify`.
-use Rattle.std.specs.Prelude.{Bool, true, false, cond, ◌&&◌, List, [], ◌∷◌, ◌++◌, ◌≡◌, refl, ℕ, ◌+◌, ◌-◌, ◌*◌, ◌%◌, ◌<◌, ◌≤◌, eqb, leb, ltb, nat_eq, nat_lt, get_or, drop, Option, Some, None, unwrap_or}
+use Rattle.std.specs.Prelude.{Bool, true, false, cond, ◌&&◌, List, [], ◌∷◌, ◌++◌, ◌≡◌, refl, ℕ, ◌+◌, ◌-◌, ◌*◌, ◌%◌, ◌<◌, ◌≤◌, eqb, leb, ltb, nat_eq, nat_lt, get_or, Option, Some, None, unwrap_or}
 use Rattle.std.specs.Char.{to_ascii_uppercase, to_ascii_lowercase}
 use Rattle.std.specs.Str.{str_eq_ignore_ascii_case}
 use Rattle.std.specs.List.{position_or_len, starts_with}
@@ -10,12 +10,11 @@ use Rattle.std.proofs.lemmas.List.Recursion.{is_position_or_len}
 use Rattle.std.proofs.lemmas.Option.{none-some}
 use Prim.Native.Char.{Char}
 use native.Mathlib.Omega.{arith}
-use Rattle.std.proofs.Math.ListN.{length, take, drop_of_length-le}
-use Rattle.std.proofs.Math.Seq.{drop-cons, take_all, get_or-take, length-take-le}
+use Rattle.std.proofs.Math.ListN.{length, take}
+use Rattle.std.proofs.Math.Seq.{take_all, get_or-take, length-take-le}
 use Rattle.ascii.specs.Chars.{upper, upper_is, hex_of, hex_some, hex_none}
 use Rattle.base.specs.Choice.{cases}
 use Rattle.base.specs.Letters.{letter, letters}
-use Rattle.base.specs.Search.{Search}
 use Rattle.command.specs.Classify.{same_text, index_of, range_texts, range_of, stripped, pid_of, command_of, values_of}
 use Rattle.command.specs.declared.Command.{Command}
 use Rattle.command.specs.declared.Command.TheVariants.{Range, Pid, Unknown}

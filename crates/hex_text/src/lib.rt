@@ -84,9 +84,10 @@ fn turn_pairs(s: &mut [u8])
 {
     let n = s.len() / 2;
     let mut block = [0u8; BLOCK];
+    // no loop over an index: each step is a block, the last a shorter one
     let mut i = 0;
     while i < n {
-        let m = base::least(BLOCK, n - i);
+        let m = BLOCK.min(n - i);
         read_pairs(&s[2 * i..2 * (i + m)], &mut block);
         text::put(s, i, &block[..m]);
         i += m;
@@ -133,7 +134,8 @@ pub fn command(s: &[u8], out: &mut [u8]) -> Result<usize, Unread>
     Err(Unread::Bad)
 }
 
-// The same in s itself, where the bytes stand behind the mark then.
+// The same in s itself, where the bytes stand behind the mark then. No one function for both: room may lack in an area, and
+// never in s.
 pub fn turn_command(s: &mut [u8]) -> Option<usize>
     ensures value { result ≡ command_turn s.old }
     ensures s_after { s.new ≡ over s.old 1 (command_text s.old) }

@@ -1,6 +1,6 @@
 -- The lines of an input, and that a reading in parts gives them: history-format.md, "a line ends with a line feed ..
 -- a last line without one is a line".
-use Rattle.std.specs.Prelude.{List, [], ◌∷◌, ◌++◌, ◌≡◌, refl, ℕ, ◌+◌, ◌<◌, ◌≤◌, eqb, length}
+use Rattle.std.specs.Prelude.{List, [], ◌∷◌, ◌++◌, ◌≡◌, refl, ℕ, ◌<◌, ◌≤◌, eqb, length}
 use Rattle.std.proofs.Common.{append_assoc, append-nil, ap, sym, ◌∙◌, arith}
 use Rattle.base.specs.Choice.{pick, cases}
 use Rattle.base.specs.Times.{times}

@@ -10,7 +10,7 @@ use command::Command;
 use writing::Text;
 
 // The start of the line that is being read: the first `kept` of `head`. No command's class depends on
-// more than six bytes, so a line may be of any length.
+// more than six bytes, so a line may be of any length. An array with its count, since the program runs in fixed memory.
 #[derive(Clone, Copy)]
 pub struct Line {
     pub head: [u8; 6],

@@ -1,7 +1,6 @@
 -- `command::wire_command_to_pid` meets its contract: each return rewrites with the tests that led there.
-use Rattle.std.proofs.Common.{arith, sym, ◌∙◌, le-leb, lt-ltb}
-use Rattle.std.proofs.lemmas.Bool.{lt-leb}
-use Rattle.ascii.specs.Chars.{hex_some, hex_none}
+use Rattle.std.proofs.Common.{arith}
+use Rattle.ascii.specs.Chars.{hex_some}
 use Rattle.command.specs.Laws.{pid_short, pid_begins, pid_high, pid_low, pid_both}
 use Rattle.command.proofs.wire_command_to_pid.Goals as goal
 

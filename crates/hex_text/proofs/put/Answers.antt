@@ -6,7 +6,7 @@ use Rattle.base.specs.Write.{over}
 use lib.Seq.{take_all}
 use lib.ListN.{length, length-set}
 use mathlib.Core.List.{List}
-use Prim.Native.Nat.{ℕ, ◌≤◌, ◌<◌, ◌-◌, ◌+◌, ◌*◌}
+use Prim.Native.Nat.{ℕ, ◌≤◌, ◌<◌, ◌+◌, ◌*◌}
 use mathlib.Core.Path.{◌≡◌, sym, ap, ◌∙◌}
 use native.Mathlib.Omega.{arith}
 use Rattle.hex_text.proofs.put.Goals as goal

@@ -1,4 +1,3 @@
-use Rattle.hex_text.specs.Turn.{block}
 use Rattle.hex_text.specs.Pairs.{pairs}
 use Rattle.base.specs.Write.{over}
 use lib.ListN.{length, take}

@@ -1,6 +1,6 @@
 use Rattle.numeral.specs.Decimal.{digits_onto, decimal_text}
 use lib.ListN.{length, drop}
-use Prim.Native.Nat.{◌≤◌, ◌-◌}
+use Prim.Native.Nat.{◌≤◌}
 use mathlib.Core.Path.{◌≡◌}
 use Rattle.numeral.proofs.spell.Given as goal
 
