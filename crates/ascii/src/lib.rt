@@ -18,7 +18,7 @@ pub fn to_upper(b: u8) -> u8
 }
 
 // The value of a hex digit in either letter case, 16 for any other byte: a number, since hex_text takes the highest of
-// many, which takes a fifth longer by an Option.
+// many, and the recorder takes an eighth longer where that is an Option.
 pub fn digit_value(b: u8) -> u8
     ensures { result ≡ hex_value b }
 {

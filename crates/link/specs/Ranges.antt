@@ -1,5 +1,5 @@
 -- What the eight range queries brought, as rows of numbers, as they are lent.
-use Rattle.std.specs.Prelude.{Option, Some, None, List, [], ◌∷◌, ◌++◌, map, ◌≡◌, refl, ℕ, ◌+◌, ◌≤◌, eqb, get_or, set, length, drop, replicate}
+use Rattle.std.specs.Prelude.{Option, Some, None, List, [], ◌∷◌, map, ◌≡◌, refl, ℕ, ◌+◌, ◌≤◌, eqb, get_or, set, length, drop, replicate}
 use Rattle.std.proofs.Common.{append-nil, arith, drop_of_length-le}
 use Rattle.std.proofs.lemmas.List.{length-map, length-replicate}
 use Rattle.std.proofs.Math.ListN.{get_or-map}

@@ -1,6 +1,5 @@
 use mathlib.Core.Path.{◌≡◌, refl, sym, ap, ◌∙◌}
 use native.Mathlib.Omega.{arith}
-use Prim.Native.Nat.{◌-◌}
 use lib.ListN.{length, length-set}
 use borrow.Author.Rules.{rules}
 use Rattle.base.specs.Each.{filled_more, filled_all}

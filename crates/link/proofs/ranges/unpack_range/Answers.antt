@@ -3,7 +3,7 @@ use Rattle.base.specs.Write.{over, over_copy}
 use mathlib.Core.Path.{sym}
 use mathlib.Core.List.{List, append-nil}
 use mathlib.Core.Path.{◌≡◌, ◌∙◌}
-use Prim.Native.Nat.{ℕ, ◌≤◌, ◌-◌}
+use Prim.Native.Nat.{ℕ, ◌≤◌}
 use native.Mathlib.Omega.{arith}
 use lib.ListN.{length, take, drop, length-drop, drop_of_length-le}
 use lib.Seq.{take_all, take-length}
