@@ -2,8 +2,8 @@
 ghost use Rattle.std.specs.Prelude.{◌≡◌};
 ghost use Rattle.obd2.specs.Core.{delivers, reports, no_notes, noted, queries, refusing, accepts};
 
-use super::rest::{Core, Notes, Told};
 use super::Said;
+use super::rest::{Core, Notes, Told};
 use poller::Query;
 use refusal::Refusal;
 use report::summary::Summary;
