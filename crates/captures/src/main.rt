@@ -2,7 +2,7 @@
 // back". What is written is the library `capture_stream`; no more is held here than one record.
 #![tactic(auto)]
 
-ghost use Rattle.std.specs.Prelude.{◌+◌, ◌*◌, ◌≤◌, length};
+ghost use Rattle.std.specs.Prelude.{[], ◌≡◌, ◌+◌, ◌*◌, ◌≤◌, length};
 ghost use Rattle.capture_stream.specs.Machine.{owed_for, most_text, part_size, longest_record};
 
 use capture_stream::Reading;
@@ -25,8 +25,10 @@ enum Turn {
     Stuck,
 }
 
-// Writes what is put together, and tells whether it could.
-fn flush<const N: usize, W: Write>(out: &mut Text<N>, writer: &mut W) -> bool {
+// Writes what is put together, and tells whether it could. What is put together next begins anew.
+fn flush<const N: usize, W: Write>(out: &mut Text<N>, writer: &mut W) -> bool
+    ensures { out.new ≡ [] }
+{
     let wrote = writer.write_all(out.as_slice()).is_ok();
     out.clear();
     wrote
@@ -39,7 +41,10 @@ fn feed_part<const N: usize, W: Write>(
     hold: &mut [u8],
     out: &mut Text<N>,
     writer: &mut W,
-) -> Turn {
+) -> Turn
+    requires { out.old ≡ [] }
+    ensures { out.new ≡ [] }
+{
     let mut current = reading;
     // A walk: each feed tells how much of the part it used.
     let mut at = 0;
@@ -60,7 +65,10 @@ fn read_part<const N: usize, R: Read, W: Write>(
     out: &mut Text<N>,
     reader: &mut R,
     writer: &mut W,
-) -> io::Result<Turn> {
+) -> io::Result<Turn>
+    requires { out.old ≡ [] }
+    ensures { out.new ≡ [] }
+{
     let mut input = [0u8; INPUT];
     let n = reader.read(&mut input)?;
     if n == 0 {
@@ -78,6 +86,7 @@ fn run<const N: usize, R: Read, W: Write>(
     writer: &mut W,
 ) -> io::Result<()>
     requires longest_record_in_bounds { longest_record ≤ length hold.old }
+    requires out_is_empty { out.old ≡ [] }
     requires part_size_in_bounds { owed_for longest_record + most_text * part_size ≤ N }
 {
     let mut reading = capture_stream::start();

@@ -13,9 +13,6 @@ const INPUT: usize = 4096;
 // Nine bytes of room for each that is read are what `feed` asks.
 const OUTPUT: usize = 36864;
 
-// The most that follows a line.
-const TAIL: usize = 9;
-
 // Reads once and writes what that gives: the line after it, none where the input is at its end.
 fn copy_some<R: Read, W: Write>(
     line: Line,
@@ -35,8 +32,7 @@ fn copy_some<R: Read, W: Write>(
 }
 
 fn write_last<W: Write>(line: Line, writer: &mut W) -> io::Result<()> {
-    let mut last: Text<TAIL> = Text::new();
-    transcript::finish(line, &mut last);
+    let last = transcript::finish(line);
     writer.write_all(last.as_slice())
 }
 

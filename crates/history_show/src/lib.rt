@@ -127,7 +127,7 @@ fn revs<const N: usize>(out: &mut Text<N>, revs: Option<u32>)
 {
     out.byte(b' ');
     match revs {
-        Some(value) => out.number(value as u64),
+        Some(value) => out.number(u64::from(value)),
         None => out.byte(b'-'),
     }
 }

@@ -25,7 +25,7 @@ use std::io::Write;
 use tasks::Task;
 use writing::Text;
 
-// No answer is longer: a call's has at most 4,096 bytes (`answer_whole`), that of `show` 8,192 (`show_whole`).
+// No answer is longer: a call's has at most 4,096 bytes (`answer_room`), that of `show` 8,192 (`show_room`).
 const ANSWER: usize = 16384;
 
 // The places of the control line.

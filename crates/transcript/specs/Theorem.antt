@@ -1,7 +1,7 @@
 -- The parts of an input, however it is cut, together write the output of the whole; and of the whole each line
 -- is followed by its class and its number.
 use mathlib.Core.List.{List, [], ◌∷◌, ◌++◌, append_assoc, append-nil}
-use Rattle.std.specs.Prelude.{◌≡◌, ℕ, ◌+◌, ◌≤◌, eqb, ltb, leb, length, take}
+use Rattle.std.specs.Prelude.{◌≡◌, ℕ, ◌≤◌, eqb, ltb, leb, length, take}
 use Rattle.std.proofs.Math.Path.{refl, ap, sym}
 use Rattle.std.proofs.Common.{◌∙◌, arith, add-one, length-append, length-take, length-set, take_all, take-suc-set, take-take, length-take-le, ltb-true, ltb-false, leb-true, leb-false, eqb-true, eq-eqb, ne_eqb}
 use Rattle.std.proofs.lemmas.List.{take-append-le}

@@ -9,6 +9,9 @@ ghost use Rattle.writing.specs.Added.{Added};
 use command::Command;
 use writing::Text;
 
+// The most that follows a line.
+pub const TAIL: usize = 9;
+
 // The start of the line that is being read: the first `kept` of `head`. No command's class depends on
 // more than six bytes, so a line may be of any length. An array with its count, since the program runs in fixed memory.
 #[derive(Clone, Copy)]
@@ -107,10 +110,13 @@ pub fn feed<const N: usize>(line: Line, input: &[u8], out: &mut Text<N>) -> Fed
 }
 
 // What follows the last line, where the input ends without a line feed: nothing where that line is empty.
-pub fn finish<const N: usize>(line: Line, out: &mut Text<N>)
-    ensures { Added N out.old (last_text (kept_of line)) out.new }
+pub fn finish(line: Line) -> Text<TAIL>
+    ensures { result ≡ last_text (kept_of line) }
 {
-    if line.kept != 0 {
-        tail(out, class_of(line));
+    let mut out: Text<TAIL> = Text::new();
+    if line.kept == 0 {
+        return out;
     }
+    tail(&mut out, class_of(line));
+    out
 }

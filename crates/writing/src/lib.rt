@@ -1,5 +1,5 @@
-// Texts written one behind the other, as far as there is room: what is written is always the start of the whole, and all of it
-// where the memory is long enough.
+// Texts written one behind the other into fixed memory: each as far as there is room, so that what is written is the start of the
+// whole and all of it where there is room for all, or, by `put_whole`, whole or not at all.
 #![tactic(auto)]
 
 ghost use Rattle.std.specs.Prelude.{[], ◌∷◌, ◌≡◌, ◌≤◌, ◌-◌, List, ℕ, length, take};

@@ -22,4 +22,4 @@ pub loop-at-preserved : goal.loop-at-preserved
 loop-at-preserved g c =
     let u = used_le _ _ _ _ _ _ c.loop-at.invariant.0 c.feed-fed.ensures.value in
     let i = c.loop-at.invariant in
-    (u, c.feed-fed.auto.hold ∙ i.1)
+    (u, c.feed-fed.auto.hold ∙ i.1, c.flush.ensures)

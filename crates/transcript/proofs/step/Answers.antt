@@ -3,8 +3,7 @@ use Rattle.transcript.specs.Lines.{step_text, step_line}
 use Rattle.transcript.specs.Laws.{tail_length}
 use Rattle.writing.specs.Added.{added_fits}
 use borrow.Author.Tests.{eq-eqb, ne_eqb}
-use mathlib.Core.Path.{sym, ap, ◌∙◌}
-use lib.ListN.{length}
+use mathlib.Core.Path.{◌∙◌}
 use native.Mathlib.Omega.{arith}
 use Rattle.transcript.proofs.step.Goals as goal
 
