@@ -1,5 +1,5 @@
 -- A text with others written behind it, one by one, as far as there is room for n bytes.
-use Rattle.std.specs.Prelude.{List, [], ◌∷◌, ◌++◌, ◌≡◌, ℕ, ◌+◌, ◌-◌, ◌<◌, ◌≤◌, take, drop, set, get_or, leb, length, refl}
+use Rattle.std.specs.Prelude.{List, [], ◌∷◌, ◌++◌, ◌≡◌, ℕ, ◌+◌, ◌-◌, ◌<◌, ◌≤◌, min, take, drop, set, get_or, leb, length, refl}
 use Rattle.std.proofs.Common.{◌∙◌, sym, ap, arith, append_assoc, append-nil, length-append, length-take-le, add-one, drop-cons, le-leb}
 use Rattle.std.proofs.lemmas.Bool.{lt-leb}
 use Rattle.std.proofs.Math.ListN.{length-take}
@@ -7,6 +7,7 @@ use Rattle.std.proofs.lemmas.List.{take_more_set}
 use Rattle.std.proofs.Math.Seq.{take_all, take-append-le, take-append-add, take-nil}
 use borrow.Author.Tests.{leb-true, leb-false}
 use Rattle.base.specs.Choice.{cases, pick}
+use Rattle.base.specs.Write.{over, take_over}
 
 -- The text old with s behind it, as far as there is room for n bytes in all.
 unfoldable pub added : ℕ → List ℕ → List ℕ → List ℕ
@@ -59,6 +60,20 @@ module _ (n : ℕ) (bytes : List ℕ) (len : ℕ) (full : length bytes ≡ n) wh
   added_past s g h =
       let l : length (take len bytes) ≡ len = length-take-le len bytes (omega arith) in
       added_full n (take len bytes) s (omega arith)
+
+  -- As much of a text as there is room for, written at once.
+  pub added_part : (s : List ℕ) (m : ℕ) → len ≤ n → m ≡ min (length s) (n - len)
+      → take (len + m) (over bytes len (take m s)) ≡ added n (take len bytes) s
+  unfolding added
+  added_part s m g e =
+      let l : length (take len bytes) ≡ len = length-take-le len bytes (omega arith) in
+      let k : length (take m s) ≡ m = length-take-le m s (omega arith) in
+      let t : take m s ≡ take (n - len) s =
+          cases _ (leb (length s) (n - len))
+          (λ h. let x = leb-true (length s) (n - len) h in
+          take_all m s (omega arith) ∙ sym (take_all (n - len) s x))
+          (λ h. let x = leb-false (length s) (n - len) h in ap (λ (j : ℕ). take j s) (let z : m ≡ n - len = omega arith in z)) in
+      ap (λ (j : ℕ). take (len + j) (over bytes len (take m s))) (sym k) ∙ take_over bytes len (take m s) (omega arith) ∙ rw (l, t)
 
 -- The text s was written behind old, as far as there is room for n bytes in all: the text is new then.
 pub record Added (n : ℕ) (old s new : List ℕ) : Type 0 where

@@ -70,9 +70,11 @@ impl<const N: usize> Text<N> {
     pub fn put(&mut self, s: &[u8])
         ensures { Added N self.old s.now self.new }
     {
-        for b in s {
-            self.byte(*b);
-        }
+        let at = self.len;
+        let n = s.len().min(N - at);
+        let bytes = &mut self.bytes[..];
+        base::copy(&s[..n], &mut bytes[at..]);
+        self.len = at + n;
     }
 
     // The whole text, or nothing where there is no room for it.

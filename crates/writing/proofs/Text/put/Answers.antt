@@ -1,13 +1,16 @@
--- `Text::put` meets its contract. The invariant: what is left of the text.
-use lib.ListN.{drop_of_length-le}
-use Rattle.writing.specs.Added.{left_all, left_next, left_none, next_byte}
+-- `Text::put` meets its contract: the part that has room comes in its place.
+use Rattle.std.proofs.Common.{List, ℕ, ◌+◌, ◌∙◌, ap, sym, rules, take}
+use Rattle.base.specs.Write.{over_lent}
+use Rattle.writing.specs.Added.{added_part}
 use Rattle.writing.proofs.Text.put.Goals as goal
 
-pub loop-b-init : goal.loop-b-init
-loop-b-init g c = left_all _ _ _
-
-pub loop-b-preserved : goal.loop-b-preserved
-loop-b-preserved g c = left_next c.loop-b.invariant (next_byte _ c.loop-b.b-index c.loop-b-test.true) c.byte.ensures
-
 pub returns : goal.returns
-returns g c = left_none c.loop-b.invariant (drop_of_length-le _ {i = c.loop-b.b-index} c.loop-b-test.false)
+returns g c =
+    let i = c.self.inside in
+    let n = c.min-n.result in
+    let w = over_lent i.bytes i.len _ c.copy.new.to (search rules) c.copy.ensures in
+    record {
+      text_is =
+          rw (sym c.self.view_is)
+          (ap (λ (x : List ℕ). take (i.len + n) x) w ∙ added_part _ i.bytes i.len (search rules) c.args.s.now n c.self.invariant c.min-n.ensures)
+    }
