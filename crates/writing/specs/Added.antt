@@ -69,10 +69,10 @@ module _ (n : ℕ) (bytes : List ℕ) (len : ℕ) (full : length bytes ≡ n) wh
       let l : length (take len bytes) ≡ len = length-take-le len bytes (omega arith) in
       let k : length (take m s) ≡ m = length-take-le m s (omega arith) in
       let t : take m s ≡ take (n - len) s =
-          cases _ (leb (length s) (n - len))
-          (λ h. let x = leb-true (length s) (n - len) h in
-          take_all m s (omega arith) ∙ sym (take_all (n - len) s x))
-          (λ h. let x = leb-false (length s) (n - len) h in ap (λ (j : ℕ). take j s) (let z : m ≡ n - len = omega arith in z)) in
+      cases _ (leb (length s) (n - len))
+      (λ h. let x = leb-true (length s) (n - len) h in
+      take_all m s (omega arith) ∙ sym (take_all (n - len) s x))
+      (λ h. let x = leb-false (length s) (n - len) h in ap (λ (j : ℕ). take j s) (let z : m ≡ n - len = omega arith in z)) in
       ap (λ (j : ℕ). take (len + j) (over bytes len (take m s))) (sym k) ∙ take_over bytes len (take m s) (omega arith) ∙ rw (l, t)
 
 -- The text s was written behind old, as far as there is room for n bytes in all: the text is new then.

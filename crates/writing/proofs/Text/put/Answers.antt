@@ -12,5 +12,5 @@ returns g c =
     record {
       text_is =
           rw (sym c.self.view_is)
-          (ap (λ (x : List ℕ). take (i.len + n) x) w ∙ added_part _ i.bytes i.len (search rules) c.args.s.now n c.self.invariant c.min-n.ensures)
+          (ap (λ (x : List ℕ). take (i.len + n) x) w ∙ added_part _ i.bytes i.len (search rules) c.args.s.now n c.self.invariant c.min-n.ensures);
     }
