@@ -66,11 +66,9 @@ impl Refusal {
         }
     }
 
-    // The refusal of a number.
+    // The refusal of a number of the table. A number that the table does not have is told as its last row.
     pub fn numbered(number: u8) -> Refusal
-        requires above_zero { number ≢ 0 }
-        requires listed { number ≤ 16 }
-        ensures { number_of result ≡ number }
+        ensures { (number ≢ 0) → (number ≤ 16) → number_of result ≡ number }
     {
         match number {
             1 => Refusal::BadTime,

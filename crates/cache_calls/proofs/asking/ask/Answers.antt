@@ -14,12 +14,6 @@ use Rattle.cache_calls.proofs.asking.ask.Goals as goal
 named_marks_len_answers_area_after : {A B C : Type 0} → A × (B × C) → record { marks_len : A; answers : B; area_after : C }
 named_marks_len_answers_area_after p = record { marks_len = p.0; answers = p.1.0; area_after = p.1.1 }
 
-pub numbered-requires-clause-listed : goal.numbered-requires-clause-listed
-unfolding ask_refusal
-numbered-requires-clause-listed c =
-    let e = rw c.unpack_all-told.ensures at c.ask-asked.ensures.tells.number in
-    rw e (first_listed _ refl)
-
 pub returns-then-asked-ne0 : goal.returns-then-asked-ne0
 unfolding ask_refusal ask_area lent_by cache_rows rows_of row_refusal
 returns-then-asked-ne0 c =
@@ -37,7 +31,7 @@ returns-then-asked-ne0 c =
             let m = c.ask-asked.new.marks in
             let k = ask_kept y a.replies.now a.marks.now m a.core a.time a.number a.cmd.now a.area.now c.ask-asked.result d (λ z. h (e ∙ z)) in
             told_refused (box_of (with_desk y a.replies.now a.marks.now) a.core) (ask a.time a.number a.cmd.now a.area.now) n e h
-            (served_refused y a.replies.now a.marks.now m a.core c.ask-asked.result.core n _ c.refuse.result c.numbered.ensures k c.refuse.ensures),
+            (served_refused y a.replies.now a.marks.now m a.core c.ask-asked.result.core n _ c.refuse.result (c.numbered.ensures h (rw e (first_listed _ refl))) k c.refuse.ensures),
         λ x. f,
       ),
     ))

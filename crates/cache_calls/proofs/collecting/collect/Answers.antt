@@ -16,13 +16,6 @@ use Rattle.cache_calls.proofs.collecting.collect.Goals as goal
 named_marks_len_answers_area_after : {A B C : Type 0} → A × (B × C) → record { marks_len : A; answers : B; area_after : C }
 named_marks_len_answers_area_after p = record { marks_len = p.0; answers = p.1.0; area_after = p.1.1 }
 
-pub numbered-requires-clause-listed : goal.numbered-requires-clause-listed
-unfolding collect_refusal
-numbered-requires-clause-listed c =
-    let a = c.args in
-    let e = ap (λ (y : Collected). y.refusal) c.collect-collected.ensures.result_after ∙ collect_refusal_law _ a.time a.number _ in
-    rw e (first_listed _ refl)
-
 pub returns-then-collected-ne0 : goal.returns-then-collected-ne0
 unfolding collect_refusal collect_area filled_by lent_by cache_rows rows_of row_refusal
 returns-then-collected-ne0 c =
@@ -37,7 +30,7 @@ returns-then-collected-ne0 c =
             let e = ap (λ (y : Collected). y.refusal) c.collect-collected.ensures.result_after ∙ collect_refusal_law s.desk a.time a.number _ in
             let k = collect_kept x a.replies.now a.marks.now m a.core a.time a.number a.area.now c.collect-collected.result c.collect-collected.ensures.result_after (λ z. h (e ∙ z)) in
             told_refused s (collect a.time a.number a.area.now) n e h
-            (served_refused x a.replies.now a.marks.now m a.core c.collect-collected.result.core n _ c.refuse.result c.numbered.ensures k c.refuse.ensures),
+            (served_refused x a.replies.now a.marks.now m a.core c.collect-collected.result.core n _ c.refuse.result (c.numbered.ensures h (rw e (first_listed _ refl))) k c.refuse.ensures),
         λ x. c.collect-collected.ensures.area_after,
       ),
     ))

@@ -1,4 +1,3 @@
-use Rattle.std.specs.Prelude.{[]}
 use mathlib.Core.Path.{refl, ap, sym, ◌∙◌}
 use Rattle.cache_calls.specs.Served.{served_refused, give_up_kept, give_up_done}
 use Rattle.obd2.specs.Call.{give_up}
@@ -10,13 +9,6 @@ use Rattle.waits.specs.Laws.{give_up_refusal_law}
 use Rattle.waits.specs.Rules.{give_up_refusal}
 use Rattle.waits.specs.declared.GivenUp.{GivenUp}
 use Rattle.cache_calls.proofs.giving_up.give_up.Goals as goal
-
-pub numbered-requires-clause-listed : goal.numbered-requires-clause-listed
-unfolding give_up_refusal
-numbered-requires-clause-listed c =
-    let a = c.args in
-    let e = ap (λ (y : GivenUp). y.refusal) (c.give_up-ended.ensures [] []) ∙ give_up_refusal_law _ a.number in
-    rw e (first_listed _ refl)
 
 pub returns-then-ended-ne0 : goal.returns-then-ended-ne0
 unfolding give_up_refusal cache_rows rows_of row_refusal
@@ -30,7 +22,7 @@ returns-then-ended-ne0 c =
     let e = ap (λ (y : GivenUp). y.refusal) g ∙ give_up_refusal_law s.desk a.number in
     let k = give_up_kept x x.replies x.marks x.marks a.core a.time a.number c.give_up-ended.result g (λ z. h (e ∙ z)) in
     told_refused s (give_up a.time a.number) n e h
-    (served_refused x x.replies x.marks x.marks a.core c.give_up-ended.result.core n _ c.refuse.result c.numbered.ensures k c.refuse.ensures)
+    (served_refused x x.replies x.marks x.marks a.core c.give_up-ended.result.core n _ c.refuse.result (c.numbered.ensures h (rw e (first_listed _ refl))) k c.refuse.ensures)
 
 pub returns : goal.returns
 unfolding give_up_refusal cache_rows rows_of row_refusal

@@ -1,5 +1,6 @@
-use Rattle.std.specs.Prelude.{◌≡◌, []}
+use Rattle.std.specs.Prelude.{◌≡◌, ◌≤◌}
 use Rattle.desk.specs.Rules.{register_refusal}
+use Rattle.desk.specs.declared.Desk.{Desk}
 use Rattle.obd2.specs.Listed.{first_listed}
 use mathlib.Core.Path.{refl, ap, sym, ◌∙◌}
 use Rattle.control_line.specs.Rows.{line_of}
@@ -21,9 +22,10 @@ use Rattle.desk_calls.proofs.registering.register.Goals as goal
 named_marks_len_2_table_len_2_pids_len_2_rates_len_2_pids_unchanged_rates_unchanged_by_index : {A B C D E F G : Type 0} → A × (B × (C × (D × (E × (F × G))))) → record { marks_len_2 : A; table_len_2 : B; pids_len_2 : C; rates_len_2 : D; pids_unchanged : E; rates_unchanged : F; by_index : G }
 named_marks_len_2_table_len_2_pids_len_2_rates_len_2_pids_unchanged_rates_unchanged_by_index p = record { marks_len_2 = p.0; table_len_2 = p.1.0; pids_len_2 = p.1.1.0; rates_len_2 = p.1.1.1.0; pids_unchanged = p.1.1.1.1.0; rates_unchanged = p.1.1.1.1.1.0; by_index = p.1.1.1.1.1.1 }
 
-pub numbered-requires-clause-listed : goal.numbered-requires-clause-listed
+-- A register's refusal is of the table.
+listed : (d : Desk) → register_refusal d ≤ 16
 unfolding register_refusal
-numbered-requires-clause-listed c = rw (c.refusal-number.ensures [] []) (first_listed _ refl)
+listed d = first_listed _ refl
 
 pub returns-then-number-ne0 : goal.returns-then-number-ne0
 returns-then-number-ne0 c =
@@ -42,7 +44,7 @@ returns-then-number-ne0 c =
                 λ replies polling.
                     let x = lent replies a.marks.now a.table.now a.slots.now polling a.pids.now a.rates.now in
                     let s = box_of x a.core in
-                    own_refused s a.time Register c.refusal-number.result (register_told s _ (c.refusal-number.ensures replies a.marks.now)) c.if-number-ne0.true (refused_by x a.core c.refuse.result _ _ c.numbered.ensures c.refuse.ensures),
+                    own_refused s a.time Register c.refusal-number.result (register_told s _ (c.refusal-number.ensures replies a.marks.now)) c.if-number-ne0.true (refused_by x a.core c.refuse.result _ _ (c.numbered.ensures c.if-number-ne0.true (rw (c.refusal-number.ensures replies a.marks.now) (listed s.desk))) c.refuse.ensures),
               ),
             ),
           ),

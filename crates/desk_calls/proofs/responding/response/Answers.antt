@@ -1,4 +1,4 @@
-use Rattle.std.specs.Prelude.{◌≡◌}
+use Rattle.std.specs.Prelude.{◌≡◌, ◌≤◌}
 use mathlib.Core.Path.{refl, ap, sym, ◌∙◌}
 use Rattle.control_line.specs.Rows.{line_of}
 use Rattle.manager.specs.Rows.{manager_of}
@@ -7,7 +7,6 @@ use Rattle.manager_calls.specs.Send.{back_manager, back_line, back_report, no_ra
 use Rattle.manager_calls.specs.Settle.{sent_refused, sent_done, handed_back, own_refused, own_settled}
 use Rattle.delivery.specs.Laws.{response_refusal_law}
 use Rattle.delivery.specs.Rules.{response_refusal}
-use Rattle.desk.specs.Core.{desk_of}
 use Rattle.obd2.specs.Listed.{first_listed}
 use Rattle.delivery.specs.Storing.{evaluated_stored}
 use Rattle.delivery.specs.declared.evaluation.Evaluated.{Evaluated}
@@ -17,6 +16,7 @@ use Rattle.obd2.specs.Core.{lent, box_of, refused_by}
 use Rattle.obd2.specs.Done.{manager_by}
 use Rattle.passes.specs.declared.Terms.{Terms}
 use Rattle.refusal.specs.declared.Refusal.TheVariants.{LineFull}
+use Rattle.reply.specs.declared.Response.{Response}
 use Rattle.report.specs.declared.summary.Summary.{Summary}
 use Rattle.desk_calls.proofs.responding.response.Goals as goal
 
@@ -24,13 +24,10 @@ use Rattle.desk_calls.proofs.responding.response.Goals as goal
 named_marks_len_2_table_len_2_pids_len_2_rates_len_2_pids_unchanged_rates_unchanged_answers : {A B C D E F G : Type 0} → A × (B × (C × (D × (E × (F × G))))) → record { marks_len_2 : A; table_len_2 : B; pids_len_2 : C; rates_len_2 : D; pids_unchanged : E; rates_unchanged : F; answers : G }
 named_marks_len_2_table_len_2_pids_len_2_rates_len_2_pids_unchanged_rates_unchanged_answers p = record { marks_len_2 = p.0; table_len_2 = p.1.0; pids_len_2 = p.1.1.0; rates_len_2 = p.1.1.1.0; pids_unchanged = p.1.1.1.1.0; rates_unchanged = p.1.1.1.1.1.0; answers = p.1.1.1.1.1.1 }
 
-pub numbered-requires-clause-listed : goal.numbered-requires-clause-listed
+-- A response's refusal is of the table.
+listed : (r : Response) → response_refusal r ≤ 16
 unfolding response_refusal
-numbered-requires-clause-listed c =
-    let a = c.args in
-    let s = desk_of a.replies.now a.marks.now a.core.desk in
-    let e = ap (λ (y : Evaluated). y.refusal) (c.evaluate-evaluated.ensures s refl) ∙ response_refusal_law s a.core.profiles a.response in
-    rw e (first_listed _ refl)
+listed r = first_listed _ refl
 
 pub returns-then-evaluated-ne0 : goal.returns-then-evaluated-ne0
 returns-then-evaluated-ne0 c =
@@ -50,7 +47,7 @@ returns-then-evaluated-ne0 c =
                     let x = lent a.replies.now a.marks.now a.table.now a.slots.now polling a.pids.now a.rates.now in
                     let s = box_of x a.core in
                     let n = ap (λ (y : Evaluated). y.refusal) (c.evaluate-evaluated.ensures s.desk refl) in
-                    own_refused s a.time (Respond a.response) c.evaluate-evaluated.result.refusal (response_told s a.response _ n) c.if-evaluated-ne0.true (refused_by x a.core c.refuse.result _ _ c.numbered.ensures c.refuse.ensures),
+                    own_refused s a.time (Respond a.response) c.evaluate-evaluated.result.refusal (response_told s a.response _ n) c.if-evaluated-ne0.true (refused_by x a.core c.refuse.result _ _ (c.numbered.ensures c.if-evaluated-ne0.true (rw (n ∙ response_refusal_law s.desk a.core.profiles a.response) (listed a.response))) c.refuse.ensures),
               ),
             ),
           ),
