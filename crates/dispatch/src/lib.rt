@@ -2,6 +2,8 @@
 #![tactic(auto)]
 
 ghost use Rattle.std.specs.Prelude.{◌≡◌};
+ghost use Rattle.link.specs.Ranges.{replies_in};
+ghost use Rattle.obd2.specs.Behind.{behind_by};
 ghost use Rattle.obd2.specs.Core.{lent, box_of, answered_of};
 ghost use Rattle.obd2.specs.History.{step};
 ghost use Rattle.poller.specs.Core.{held};
@@ -43,6 +45,7 @@ pub fn call(
     ensures result_after { answered_of (lent replies.new marks.new table.new slots.new (held polled.new known.new order.new ranges.new) pids.new rates.new) result ≡ step (box_of (lent replies.old marks.old table.old slots.old (held polled.old known.old order.old ranges.old) pids.old rates.old) core) (call_of time call brought cmd.now area.old) }
     ensures area_after { area.new ≡ area_of (box_of (lent replies.old marks.old table.old slots.old (held polled.old known.old order.old ranges.old) pids.old rates.old) core) time call brought cmd.now area.old }
     ensures promised { Promised (box_of (lent replies.old marks.old table.old slots.old (held polled.old known.old order.old ranges.old) pids.old rates.old) core) (call_of time call brought cmd.now area.old) (answered_of (lent replies.new marks.new table.new slots.new (held polled.new known.new order.new ranges.new) pids.new rates.new) result) }
+    ensures behind { replies_in ranges.new ≡ behind_by (call_of time call brought cmd.now area.old) result.answer (replies_in ranges.old) }
 {
     if answers::bad_time(core.time, time) {
         return telling::refuse(core, Refusal::BadTime);

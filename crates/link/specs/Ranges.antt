@@ -7,9 +7,11 @@ use Rattle.base.specs.Choice.{pick}
 use Rattle.base.specs.Each.{map_set, map_replicate}
 use Rattle.base.specs.Write.{over}
 use Rattle.reply.specs.Rows.{row_size, zeros, reply_in}
-use Rattle.reply.specs.Rules.{no_range}
+use Rattle.reply.specs.Rules.{empty_reply, no_range, reply_of}
 use Rattle.reply.specs.declared.Reply.{Reply}
 use Rattle.link.specs.Rules.{no_ranges}
+use Rattle.link.specs.declared.Connecting.{Connecting}
+use Rattle.link.specs.declared.Connecting.TheVariants.{Connected, Failed, Already}
 
 -- How long a row is.
 abbrev pub range_size : ℕ
@@ -63,3 +65,56 @@ blank_length = length-replicate {A = List ℕ} 8 (zeros range_size)
 pub none_length : length no_ranges ≡ 8
 unfolding no_ranges
 none_length = refl
+
+-- ---- what stands behind the flags
+
+-- WHAT STANDS BEHIND A ROW'S FLAG, whatever the flag says.
+unfoldable pub behind_in : List ℕ → Reply
+behind_in row = reply_in (drop 1 row)
+
+-- WHAT STANDS BEHIND THE FLAGS of the lent rows. `ranges_of` passes over it where a range is absent, so that a contract which speaks of
+-- the ranges alone would let those bytes be anything: a refused call could write there, and a loss leave there what was known.
+unfoldable pub replies_in : List (List ℕ) → List Reply
+replies_in rows = map behind_in rows
+
+-- The same of ranges by value: an absent one has a reply without lines.
+unfoldable pub replies_of : List (Option Reply) → List Reply
+replies_of ranges = map reply_of ranges
+
+unfoldable pub no_replies : List Reply
+no_replies = replicate 8 empty_reply
+
+-- What stands there after an outcome of connecting, by what is said to it: what the outcome brought, and what was there if there was a
+-- connection already.
+unfoldable pub replies_by : Connecting → List Reply → List Reply → List Reply
+replies_by Connected brought had = brought
+replies_by Failed brought had = brought
+replies_by Already brought had = had
+
+-- What is put into a row stands there.
+pub behind_packed : (r : Reply) (blank row : List ℕ) → length row ≡ row_size → length blank ≡ row_size → reply_in row ≡ r
+    → behind_in (over (1 ∷ blank) 1 row) ≡ r
+unfolding behind_in over
+behind_packed r blank row h k e =
+    let g : length (1 ∷ blank) ≤ 1 + length row = omega arith in
+    rw (drop_of_length-le (1 ∷ blank) g, append-nil, e)
+
+pub behind_set : (rows : List (List ℕ)) (n : ℕ) (row : List ℕ) → replies_in (set rows n row) ≡ set (replies_in rows) n (behind_in row)
+unfolding replies_in
+behind_set rows n row = map_set behind_in rows n row
+
+pub behind_length : (rows : List (List ℕ)) → length (replies_in rows) ≡ length rows
+unfolding replies_in
+behind_length rows = length-map rows behind_in
+
+pub replies_blank : replies_in blank_ranges ≡ no_replies
+unfolding replies_in blank_ranges no_replies behind_in reply_in
+replies_blank = map_replicate behind_in 8 (zeros range_size)
+
+pub replies_at : (ranges : List (Option Reply)) (n : ℕ) → get_or (replies_of ranges) n empty_reply ≡ reply_of (get_or ranges n no_range)
+unfolding replies_of
+replies_at ranges n = get_or-map reply_of ranges n no_range
+
+pub replies_length : (ranges : List (Option Reply)) → length (replies_of ranges) ≡ length ranges
+unfolding replies_of
+replies_length ranges = length-map ranges reply_of

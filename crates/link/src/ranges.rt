@@ -1,7 +1,8 @@
 // What the eight range queries brought, as rows of numbers: whether there is a reply, then the reply's own row. The connection's
 // ranges are lent as such rows.
 ghost use Rattle.std.specs.Prelude.{◌≡◌};
-ghost use Rattle.link.specs.Ranges.{range_in, ranges_of, blank_ranges};
+ghost use Rattle.link.specs.Ranges.{range_in, ranges_of, blank_ranges, behind_in, replies_in, replies_of};
+ghost use Rattle.reply.specs.Rules.{reply_of};
 
 use reply::Reply;
 use reply::rows::ROW;
@@ -13,7 +14,8 @@ pub const RANGE_ROW: usize = 74;
 
 // The row of what a range query brought.
 fn pack_range(range: Option<Reply>) -> [u8; RANGE_ROW]
-    ensures { range_in result ≡ range }
+    ensures value { range_in result ≡ range }
+    ensures behind { behind_in result ≡ reply_of range }
 {
     let mut row = [0u8; RANGE_ROW];
     if let Some(reply) = range {
@@ -46,7 +48,8 @@ pub fn blank() -> [[u8; RANGE_ROW]; RANGES]
 
 // The rows of all eight.
 pub fn pack_all(ranges: [Option<Reply>; RANGES]) -> [[u8; RANGE_ROW]; RANGES]
-    ensures { ranges_of result ≡ ranges }
+    ensures value { ranges_of result ≡ ranges }
+    ensures behind { replies_in result ≡ replies_of ranges }
 {
     let mut rows = blank();
     for (i, range) in ranges.iter().enumerate() {

@@ -2,6 +2,7 @@
 ghost use Rattle.std.specs.Prelude.{Bool, List, ◌≡◌, ℕ};
 ghost use Rattle.link.specs.Rules.{start_link, connect_of, fail_of, loss_of, reconnect_of};
 ghost use Rattle.link.specs.Core.{link_of, linked_in, checked_in};
+ghost use Rattle.link.specs.Ranges.{replies_in, replies_of, no_replies, replies_by};
 
 use super::ranges::{RANGE_ROW, RANGES};
 use super::{Connecting, FeatureSupport, Features, Session};
@@ -28,9 +29,10 @@ pub struct Looked {
 }
 
 // No connection, and none tried, whatever the arrays had.
-#[tactic(auto, unfolding(crate::specs::Rules::start_link), using(crate::specs::Ranges::ranges_blank))]
+#[tactic(auto, unfolding(crate::specs::Rules::start_link), using(crate::specs::Ranges::ranges_blank, crate::specs::Ranges::replies_blank))]
 pub fn start(known: &mut [bool; 256], ranges: &mut [[u8; RANGE_ROW]; RANGES]) -> Core
-    ensures { link_of known.new ranges.new result ≡ start_link }
+    ensures result_after { link_of known.new ranges.new result ≡ start_link }
+    ensures behind { replies_in ranges.new ≡ no_replies }
 {
     *known = [false; 256];
     *ranges = super::ranges::blank();
@@ -44,14 +46,15 @@ pub fn start(known: &mut [bool; 256], ranges: &mut [[u8; RANGE_ROW]; RANGES]) ->
 }
 
 // A connection was made.
-#[tactic(auto, unfolding(crate::specs::Rules::connect_of))]
+#[tactic(auto, unfolding(crate::specs::Rules::connect_of, crate::specs::Ranges::replies_by))]
 pub fn connect(
     known: &mut [bool; 256],
     ranges: &mut [[u8; RANGE_ROW]; RANGES],
     mut core: Core,
     s: Session,
 ) -> Tried
-    ensures { linked_in known.new ranges.new result ≡ connect_of (link_of known.old ranges.old core) s }
+    ensures result_after { linked_in known.new ranges.new result ≡ connect_of (link_of known.old ranges.old core) s }
+    ensures behind { replies_in ranges.new ≡ replies_by result.said (replies_of s.ranges) (replies_in ranges.old) }
 {
     if core.connected {
         return Tried {
@@ -71,9 +74,10 @@ pub fn connect(
 }
 
 // A connection was tried and not made.
-#[tactic(auto, unfolding(crate::specs::Rules::fail_of), using(crate::specs::Ranges::ranges_blank))]
+#[tactic(auto, unfolding(crate::specs::Rules::fail_of, crate::specs::Ranges::replies_by), using(crate::specs::Ranges::ranges_blank, crate::specs::Ranges::replies_blank))]
 pub fn fail(ranges: &mut [[u8; RANGE_ROW]; RANGES], core: Core) -> Tried
-    ensures { (known : List Bool) → linked_in known ranges.new result ≡ fail_of (link_of known ranges.old core) }
+    ensures result_after { (known : List Bool) → linked_in known ranges.new result ≡ fail_of (link_of known ranges.old core) }
+    ensures behind { replies_in ranges.new ≡ replies_by result.said no_replies (replies_in ranges.old) }
 {
     if core.connected {
         return Tried {
@@ -89,9 +93,10 @@ pub fn fail(ranges: &mut [[u8; RANGE_ROW]; RANGES], core: Core) -> Tried
 }
 
 // The connection was lost.
-#[tactic(auto, unfolding(crate::specs::Rules::loss_of), using(crate::specs::Ranges::ranges_blank))]
+#[tactic(auto, unfolding(crate::specs::Rules::loss_of), using(crate::specs::Ranges::ranges_blank, crate::specs::Ranges::replies_blank))]
 pub fn lose(ranges: &mut [[u8; RANGE_ROW]; RANGES], mut core: Core) -> Core
-    ensures { (known : List Bool) → link_of known ranges.new result ≡ loss_of (link_of known ranges.old core) }
+    ensures result_after { (known : List Bool) → link_of known ranges.new result ≡ loss_of (link_of known ranges.old core) }
+    ensures behind { replies_in ranges.new ≡ no_replies }
 {
     *ranges = super::ranges::blank();
     core.connected = false;

@@ -4,6 +4,8 @@
 
 ghost use Rattle.std.specs.Prelude.{◌≡◌, length};
 ghost use Rattle.base.specs.Each.{some_of};
+ghost use Rattle.link.specs.Ranges.{replies_in};
+ghost use Rattle.obd2.specs.Behind.{behind_by};
 ghost use Rattle.obd2.specs.Call.{reconnect_check, connect, connect_failed};
 ghost use Rattle.obd2.specs.Core.{Lent, with_poller, box_of, answered_of};
 ghost use Rattle.obd2.specs.Answers.{Answers};
@@ -68,6 +70,7 @@ pub fn connect(
     requires { length known.old ≡ known_rows }
     ensures known_len { length known.new ≡ known_rows }
     ensures answers { (x : Lent) → Answers (box_of (with_poller x (with_connection x.polling known.old ranges.old)) core) (connect time session) (answered_of (with_poller x (with_connection x.polling known.new ranges.new)) result) }
+    ensures behind { replies_in ranges.new ≡ behind_by (connect time session) result.answer (replies_in ranges.old) }
 {
     let told = session.ranges;
     if any_over(told) {
@@ -88,7 +91,8 @@ pub fn connect(
 
 // A connection was tried and not made.
 pub fn connect_failed(ranges: &mut [[u8; RANGE_ROW]; RANGES], mut core: Core, time: u64) -> Told
-    ensures { (x : Lent) → Answers (box_of (with_poller x (with_ranges x.polling ranges.old)) core) (connect_failed time) (answered_of (with_poller x (with_ranges x.polling ranges.new)) result) }
+    ensures answers { (x : Lent) → Answers (box_of (with_poller x (with_ranges x.polling ranges.old)) core) (connect_failed time) (answered_of (with_poller x (with_ranges x.polling ranges.new)) result) }
+    ensures behind { replies_in ranges.new ≡ behind_by (connect_failed time) result.answer (replies_in ranges.old) }
 {
     let poller = core.poller;
     let round = poller.round;

@@ -3,6 +3,7 @@ pub mod Answer
 pub mod State
 pub mod Call
 pub mod Done
+pub mod Behind
 pub mod Refusals
 pub mod History
 pub mod Answers

@@ -1,5 +1,6 @@
 // Control messages, the connection, and a round's begin: the box takes these calls when no round is open.
 ghost use Rattle.std.specs.Prelude.{◌≡◌, ℕ, List, length};
+ghost use Rattle.link.specs.Ranges.{replies_in, replies_of, no_replies, replies_by};
 ghost use Rattle.poller.specs.Core.{Held, held, with_polled, with_connection, with_ranges, polled_rows, known_rows, poller_of, tried_in, looked_in};
 ghost use Rattle.poller.specs.Calls.{applied_of, apply_of, connect_of, fail_of, reconnect_of, multi_allowed, begin_of};
 
@@ -67,6 +68,7 @@ pub fn connect(
     requires { length known.old ≡ known_rows }
     ensures known_len { length known.new ≡ known_rows }
     ensures result_after { (x : Held) → tried_in (with_connection x known.new ranges.new) result ≡ connect_of (poller_of (with_connection x known.old ranges.old) p) s }
+    ensures behind { replies_in ranges.new ≡ replies_by result.said (replies_of s.ranges) (replies_in ranges.old) }
 {
     let link = p.link;
     let mut lengths = known[LENGTHS];
@@ -81,7 +83,8 @@ pub fn connect(
 
 // A connection was tried and not made.
 pub fn fail(ranges: &mut [[u8; RANGE_ROW]; RANGES], mut p: Core) -> Tried
-    ensures { (x : Held) → tried_in (with_ranges x ranges.new) result ≡ fail_of (poller_of (with_ranges x ranges.old) p) }
+    ensures result_after { (x : Held) → tried_in (with_ranges x ranges.new) result ≡ fail_of (poller_of (with_ranges x ranges.old) p) }
+    ensures behind { replies_in ranges.new ≡ replies_by result.said no_replies (replies_in ranges.old) }
 {
     let link = p.link;
     let tried = link::rest::fail(ranges, link);

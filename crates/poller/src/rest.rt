@@ -1,6 +1,7 @@
 // The poller but for what is lent: the PIDs of its two lists, the ECU counts, the known lengths, the ranges, and what a multi
 // round's plan goes by.
 ghost use Rattle.std.specs.Prelude.{◌≡◌, length, slice_set};
+ghost use Rattle.link.specs.Ranges.{replies_in, no_replies};
 ghost use Rattle.poller.specs.Core.{held, fast_row, slow_row, fixed_row, polled_rows, fixed_lengths_row, known_rows, list_of, ends_of, blank_polled, plan_in, course_of, poller_of};
 ghost use Rattle.poller.specs.State.{start_of};
 
@@ -181,6 +182,7 @@ pub fn start(
     ensures polled_len { length polled.new ≡ polled_rows }
     ensures known_len { length known.new ≡ known_rows }
     ensures result_after { poller_of (held polled.new known.new order.new ranges.new) result ≡ start_of time }
+    ensures behind { replies_in ranges.new ≡ no_replies }
 {
     *polled = blank_polled();
     let mut lengths = [false; 256];

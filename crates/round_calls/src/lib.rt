@@ -3,6 +3,8 @@
 #![tactic(auto)]
 
 ghost use Rattle.std.specs.Prelude.{◌≡◌, ℕ, not, ◌||◌, List, length};
+ghost use Rattle.link.specs.Ranges.{replies_in};
+ghost use Rattle.obd2.specs.Behind.{behind_by};
 ghost use Rattle.obd2.specs.Call.{begin, next, result as result_of};
 ghost use Rattle.obd2.specs.Core.{Lent, with_poller, box_of, answered_of};
 ghost use Rattle.obd2.specs.Answers.{Answers};
@@ -92,6 +94,7 @@ pub fn result(
     ensures polled_after { length polled.new ≡ polled_rows }
     ensures known_after { length known.new ≡ known_rows }
     ensures fact { ((x : Lent) (order : List ℕ) → Answers (box_of (with_poller x (held polled.old known.old order ranges.old)) core) (result_of time outcome) (answered_of (with_poller x (held polled.new known.new order ranges.new)) result)) }
+    ensures behind { replies_in ranges.new ≡ behind_by (result_of time outcome) result.answer (replies_in ranges.old) }
 {
     let poller = core.poller;
     let round = poller.round;

@@ -1,6 +1,8 @@
 // What a result teaches and ends.
 ghost use Rattle.std.specs.Prelude.{◌≡◌, ℕ, Bool, List, length};
+ghost use Rattle.base.specs.Choice.{pick};
 ghost use Rattle.link.specs.Core.{link_of};
+ghost use Rattle.link.specs.Ranges.{replies_in, no_replies};
 ghost use Rattle.poller.specs.Core.{held, polled_rows, known_rows, poller_of};
 ghost use Rattle.rounds.specs.Result.{is_lost, teach_of, learn_of, ends_multi, phase_after, round_after, clock_after, link_after, result_of};
 
@@ -46,7 +48,8 @@ fn link_after(
     features: Features,
     gone: bool,
 ) -> link::rest::Core
-    ensures { (lengths taught : List Bool) → link_of taught ranges.new result ≡ link_after (link_of lengths ranges.old l) taught features gone }
+    ensures result_after { (lengths taught : List Bool) → link_of taught ranges.new result ≡ link_after (link_of lengths ranges.old l) taught features gone }
+    ensures behind { replies_in ranges.new ≡ pick gone no_replies (replies_in ranges.old) }
 {
     l.features = features;
     if gone {
@@ -118,6 +121,7 @@ pub fn result(
     ensures polled_len_2 { length polled.new ≡ polled_rows }
     ensures known_len_2 { length known.new ≡ known_rows }
     ensures by_index { (order : List ℕ) → poller_of (held polled.new known.new order ranges.new) result ≡ result_of (poller_of (held polled.old known.old order ranges.old) p) time o }
+    ensures behind { replies_in ranges.new ≡ pick (is_lost o.kind) no_replies (replies_in ranges.old) }
 {
     let kind = o.kind;
     let gone = lost(kind);

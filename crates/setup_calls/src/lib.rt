@@ -7,6 +7,7 @@ ghost use Rattle.std.specs.Prelude.{Float};
 ghost use Rattle.clients.specs.Rules.{places};
 ghost use Rattle.config.specs.Blank.{no_profiles};
 ghost use Rattle.config.specs.Defaults.{default_settings};
+ghost use Rattle.link.specs.Ranges.{replies_in, no_replies};
 ghost use Rattle.obd2.specs.Answers.{Answers, PromisedStart};
 ghost use Rattle.obd2.specs.Call as call;
 ghost use Rattle.obd2.specs.Core.{Lent, lent, box_of, answered_of};
@@ -45,6 +46,7 @@ fn started(
     ensures polled_len { length polled.new ≡ polled_rows }
     ensures known_len { length known.new ≡ known_rows }
     ensures by_index { (pids : List ℕ) (rates : List Float) → box_of (lent replies.new marks.new table.new slots.new (held polled.new known.new order.new ranges.new) pids rates) result ≡ started time settings profiles }
+    ensures behind { replies_in ranges.new ≡ no_replies }
 {
     let terms = Terms {
         profiles: profiles,
@@ -102,6 +104,7 @@ pub fn start(
     ensures known_len { length known.new ≡ known_rows }
     ensures by_index { (pids : List ℕ) (rates : List Float) → answered_of (lent replies.new marks.new table.new slots.new (held polled.new known.new order.new ranges.new) pids rates) result ≡ start_of time settings profiles }
     ensures by_index_2 { (pids : List ℕ) (rates : List Float) → PromisedStart time settings profiles (answered_of (lent replies.new marks.new table.new slots.new (held polled.new known.new order.new ranges.new) pids rates) result) }
+    ensures behind { replies_in ranges.new ≡ no_replies }
 {
     match unfit(time, settings, profiles) {
         Some(refusal) => {

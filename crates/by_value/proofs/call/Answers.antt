@@ -29,7 +29,7 @@ returns c =
       polled = c.polled_of-polled.ensures;
       known = c.known_of-known.ensures;
       order = refl;
-      ranges = c.pack_all-ranges.ensures;
+      ranges = c.pack_all-ranges.ensures.value;
     } in
     let told = by_parts a.state x c.core_of-core.result parts c.core_of-core.ensures a.time a.call a.brought a.cmd.now a.area.now _ _ _ c.answered_of.ensures (c.call-said.ensures.result_after, (c.call-said.ensures.area_after, c.call-said.ensures.promised)) in
     record { value = told.0; area_after = told.1.0; promised = told.1.1 }

@@ -19,6 +19,7 @@ use Rattle.dispatch.specs.Laws.{filled, found, refused_late, done_timely}
 use Rattle.manager_calls.specs.Settle.{own_settled}
 use Rattle.obd2.specs.contracts.call.Call.{the_type}
 use Rattle.obd2.proofs.call.Call.TheLaws.{the_laws}
+use Rattle.obd2.specs.Behind.{behind_by, behind_refused}
 use Rattle.obd2.specs.Call as history
 use Rattle.obd2.specs.Call.{Fit, FitResponse, FitSettings, time_of}
 use Rattle.obd2.specs.Done.{manager_by}
@@ -36,9 +37,9 @@ use Rattle.obd2.specs.Core.{lent, box_of, refused_is}
 use Rattle.dispatch.proofs.call.Goals as goal
 use Rattle.dispatch.proofs.call.Goals.{Start}
 
--- The clauses, each under its name.
-named_whole_quiet_result_after_area_after_promised : {A B C D E : Type 0} → A × (B × (C × (D × E))) → record { whole : A; quiet : B; result_after : C; area_after : D; promised : E }
-named_whole_quiet_result_after_area_after_promised p = record { whole = p.0; quiet = p.1.0; result_after = p.1.1.0; area_after = p.1.1.1.0; promised = p.1.1.1.1 }
+-- The clauses, each under its name, with what stands behind the ranges' flags.
+named_whole_quiet_result_after_area_after_promised : {A B C D E F : Type 0} → A × (B × (C × (D × E))) → F → record { whole : A; quiet : B; result_after : C; area_after : D; promised : E; behind : F }
+named_whole_quiet_result_after_area_after_promised p f = record { whole = p.0; quiet = p.1.0; result_after = p.1.1.0; area_after = p.1.1.1.0; promised = p.1.1.1.1; behind = f }
 
 -- What a call's numbers are by their types.
 abbrev Holds : Call → Type 0
@@ -109,10 +110,10 @@ returns-then-bad_time c =
         found o a.time a.brought a.cmd.now a.area.now refl
             (refused_late o a.time a.brought a.cmd.now a.area.now a.call f.1 f.0 (sym c.bad_time.ensures ∙ c.if-bad_time.true) (refused_is x a.core c.refuse.result _ c.refuse.ensures) refl),
       ),
-    ))
+    )) (rw c.refuse.ensures (sym (behind_refused (call_of c.args.time c.args.call c.args.brought c.args.cmd.now c.args.area.now) _ _)))
 
 pub returns-in-Register : goal.returns-in-Register
-unfolding call_of area_by fills
+unfolding call_of behind_by area_by fills
 returns-in-Register c =
     named_whole_quiet_result_after_area_after_promised (let a = c.args in
     let p = c.requires in
@@ -125,10 +126,10 @@ returns-in-Register c =
         found o a.time a.brought a.cmd.now a.area.now c.in-Register.is
             (done_timely o a.time a.brought a.cmd.now a.area.now _ tt (sym c.bad_time.ensures ∙ c.if-bad_time.false) (e.by_index a.replies.now x.polling, refl)),
       ),
-    ))
+    )) (rw c.in-Register.is)
 
 pub returns-in-Leave : goal.returns-in-Leave
-unfolding call_of area_by fills
+unfolding call_of behind_by area_by fills
 returns-in-Leave c =
     named_whole_quiet_result_after_area_after_promised (let a = c.args in
     let p = c.requires in
@@ -141,10 +142,10 @@ returns-in-Leave c =
         found o a.time a.brought a.cmd.now a.area.now c.in-Leave.is
             (done_timely o a.time a.brought a.cmd.now a.area.now _ tt (sym c.bad_time.ensures ∙ c.if-bad_time.false) (e.by_index a.replies.now x.polling, refl)),
       ),
-    ))
+    )) (rw c.in-Leave.is)
 
 pub returns-in-Ask : goal.returns-in-Ask
-unfolding call_of area_by fills lent_by
+unfolding call_of behind_by area_by fills lent_by
 returns-in-Ask c =
     named_whole_quiet_result_after_area_after_promised (let a = c.args in
     let p = c.requires in
@@ -157,10 +158,10 @@ returns-in-Ask c =
         found o a.time a.brought a.cmd.now a.area.now c.in-Ask.is
             (done_timely o a.time a.brought a.cmd.now a.area.now _ tt (sym c.bad_time.ensures ∙ c.if-bad_time.false) (e.answers x, e.area_after x ∙ filled _ _ _)),
       ),
-    ))
+    )) (rw c.in-Ask.is)
 
 pub returns-in-Collect : goal.returns-in-Collect
-unfolding call_of area_by fills lent_by
+unfolding call_of behind_by area_by fills lent_by
 returns-in-Collect c =
     named_whole_quiet_result_after_area_after_promised (let a = c.args in
     let p = c.requires in
@@ -173,10 +174,10 @@ returns-in-Collect c =
         found o a.time a.brought a.cmd.now a.area.now c.in-Collect.is
             (done_timely o a.time a.brought a.cmd.now a.area.now _ tt (sym c.bad_time.ensures ∙ c.if-bad_time.false) (e.answers x, e.area_after x ∙ filled _ _ _)),
       ),
-    ))
+    )) (rw c.in-Collect.is)
 
 pub returns-in-GiveUp : goal.returns-in-GiveUp
-unfolding call_of area_by fills
+unfolding call_of behind_by area_by fills
 returns-in-GiveUp c =
     named_whole_quiet_result_after_area_after_promised (let a = c.args in
     let p = c.requires in
@@ -189,10 +190,10 @@ returns-in-GiveUp c =
         found o a.time a.brought a.cmd.now a.area.now c.in-GiveUp.is
             (done_timely o a.time a.brought a.cmd.now a.area.now _ tt (sym c.bad_time.ensures ∙ c.if-bad_time.false) (e x, refl)),
       ),
-    ))
+    )) (rw c.in-GiveUp.is)
 
 pub returns-in-Response : goal.returns-in-Response
-unfolding call_of area_by fills
+unfolding call_of behind_by area_by fills
 returns-in-Response c =
     named_whole_quiet_result_after_area_after_promised (let a = c.args in
     let p = c.requires in
@@ -205,10 +206,10 @@ returns-in-Response c =
         found o a.time a.brought a.cmd.now a.area.now c.in-Response.is
             (done_timely o a.time a.brought a.cmd.now a.area.now _ (response-fits (goal.at.returns-in-Response c).Start) (sym c.bad_time.ensures ∙ c.if-bad_time.false) (e.answers x.polling, refl)),
       ),
-    ))
+    )) (rw c.in-Response.is)
 
 pub returns-in-ProfilePidsChanged : goal.returns-in-ProfilePidsChanged
-unfolding call_of area_by fills
+unfolding call_of behind_by area_by fills
 returns-in-ProfilePidsChanged c =
     named_whole_quiet_result_after_area_after_promised (let a = c.args in
     let p = c.requires in
@@ -222,10 +223,10 @@ returns-in-ProfilePidsChanged c =
         found o a.time a.brought a.cmd.now a.area.now c.in-ProfilePidsChanged.is
             (done_timely o a.time a.brought a.cmd.now a.area.now _ n (sym c.bad_time.ensures ∙ c.if-bad_time.false) (e.answers x, refl)),
       ),
-    ))
+    )) (rw c.in-ProfilePidsChanged.is)
 
 pub returns-in-Waiting : goal.returns-in-Waiting
-unfolding call_of area_by fills manager_rows manager_by
+unfolding call_of behind_by area_by fills manager_rows manager_by
 returns-in-Waiting c =
     named_whole_quiet_result_after_area_after_promised (let a = c.args in
     let p = c.requires in
@@ -238,10 +239,10 @@ returns-in-Waiting c =
         found o a.time a.brought a.cmd.now a.area.now c.in-Waiting.is
             (done_timely o a.time a.brought a.cmd.now a.area.now _ (subst Holds c.in-Waiting.is (owed the_type the_laws a.call _ c.well_formed.1.1.1.1.1.1.1.1.1.1.1.1.0)).0.1 (sym c.bad_time.ensures ∙ c.if-bad_time.false) (own_settled o a.time (history.Waiting _) 0 (sym first_none) refl (e.result_after x), refl)),
       ),
-    ))
+    )) (rw c.in-Waiting.is)
 
 pub returns-in-Consumed : goal.returns-in-Consumed
-unfolding call_of area_by fills
+unfolding call_of behind_by area_by fills
 returns-in-Consumed c =
     named_whole_quiet_result_after_area_after_promised (let a = c.args in
     let p = c.requires in
@@ -254,10 +255,10 @@ returns-in-Consumed c =
         found o a.time a.brought a.cmd.now a.area.now c.in-Consumed.is
             (done_timely o a.time a.brought a.cmd.now a.area.now _ (subst Holds c.in-Consumed.is (owed the_type the_laws a.call _ c.well_formed.1.1.1.1.1.1.1.1.1.1.1.1.0)).0.1 (sym c.bad_time.ensures ∙ c.if-bad_time.false) (e.answers x, refl)),
       ),
-    ))
+    )) (rw c.in-Consumed.is)
 
 pub returns-in-Tick : goal.returns-in-Tick
-unfolding call_of area_by fills manager_rows manager_by
+unfolding call_of behind_by area_by fills manager_rows manager_by
 returns-in-Tick c =
     named_whole_quiet_result_after_area_after_promised (let a = c.args in
     let p = c.requires in
@@ -270,10 +271,10 @@ returns-in-Tick c =
         found o a.time a.brought a.cmd.now a.area.now c.in-Tick.is
             (done_timely o a.time a.brought a.cmd.now a.area.now _ tt (sym c.bad_time.ensures ∙ c.if-bad_time.false) (own_settled o a.time (history.Tick) 0 (sym first_none) refl (e.result_after x), refl)),
       ),
-    ))
+    )) (rw c.in-Tick.is)
 
 pub returns-in-SetSettings : goal.returns-in-SetSettings
-unfolding call_of area_by fills
+unfolding call_of behind_by area_by fills
 returns-in-SetSettings c =
     named_whole_quiet_result_after_area_after_promised (let a = c.args in
     let p = c.requires in
@@ -286,10 +287,10 @@ returns-in-SetSettings c =
         found o a.time a.brought a.cmd.now a.area.now c.in-SetSettings.is
             (done_timely o a.time a.brought a.cmd.now a.area.now _ (settings-fit _ _ (subst Holds c.in-SetSettings.is (owed the_type the_laws a.call _ c.well_formed.1.1.1.1.1.1.1.1.1.1.1.1.0)).0) (sym c.bad_time.ensures ∙ c.if-bad_time.false) (e x, refl)),
       ),
-    ))
+    )) (rw c.in-SetSettings.is)
 
 pub returns-in-TakeControl : goal.returns-in-TakeControl
-unfolding call_of area_by fills
+unfolding call_of behind_by area_by fills
 returns-in-TakeControl c =
     named_whole_quiet_result_after_area_after_promised (let a = c.args in
     let p = c.requires in
@@ -302,10 +303,10 @@ returns-in-TakeControl c =
         found o a.time a.brought a.cmd.now a.area.now c.in-TakeControl.is
             (done_timely o a.time a.brought a.cmd.now a.area.now _ tt (sym c.bad_time.ensures ∙ c.if-bad_time.false) (e.answers x, refl)),
       ),
-    ))
+    )) (rw c.in-TakeControl.is)
 
 pub returns-in-Connect : goal.returns-in-Connect
-unfolding call_of area_by fills
+unfolding call_of behind_by area_by fills
 returns-in-Connect c =
     named_whole_quiet_result_after_area_after_promised (let a = c.args in
     let p = c.requires in
@@ -318,10 +319,10 @@ returns-in-Connect c =
         found o a.time a.brought a.cmd.now a.area.now c.in-Connect.is
             (done_timely o a.time a.brought a.cmd.now a.area.now _ tt (sym c.bad_time.ensures ∙ c.if-bad_time.false) (e.answers x, refl)),
       ),
-    ))
+    )) (rw c.in-Connect.is c.connect.ensures.behind)
 
 pub returns-in-ConnectFailed : goal.returns-in-ConnectFailed
-unfolding call_of area_by fills
+unfolding call_of behind_by area_by fills
 returns-in-ConnectFailed c =
     named_whole_quiet_result_after_area_after_promised (let a = c.args in
     let p = c.requires in
@@ -332,12 +333,12 @@ returns-in-ConnectFailed c =
       (
         λ z. (refl, refl),
         found o a.time a.brought a.cmd.now a.area.now c.in-ConnectFailed.is
-            (done_timely o a.time a.brought a.cmd.now a.area.now _ tt (sym c.bad_time.ensures ∙ c.if-bad_time.false) (e x, refl)),
+            (done_timely o a.time a.brought a.cmd.now a.area.now _ tt (sym c.bad_time.ensures ∙ c.if-bad_time.false) (e.answers x, refl)),
       ),
-    ))
+    )) (rw c.in-ConnectFailed.is c.connect_failed.ensures.behind)
 
 pub returns-in-ReconnectCheck : goal.returns-in-ReconnectCheck
-unfolding call_of area_by fills
+unfolding call_of behind_by area_by fills
 returns-in-ReconnectCheck c =
     named_whole_quiet_result_after_area_after_promised (let a = c.args in
     let p = c.requires in
@@ -350,10 +351,10 @@ returns-in-ReconnectCheck c =
         found o a.time a.brought a.cmd.now a.area.now c.in-ReconnectCheck.is
             (done_timely o a.time a.brought a.cmd.now a.area.now _ tt (sym c.bad_time.ensures ∙ c.if-bad_time.false) (e x, refl)),
       ),
-    ))
+    )) (rw c.in-ReconnectCheck.is)
 
 pub returns-in-Begin : goal.returns-in-Begin
-unfolding call_of area_by fills
+unfolding call_of behind_by area_by fills
 returns-in-Begin c =
     named_whole_quiet_result_after_area_after_promised (let a = c.args in
     let p = c.requires in
@@ -366,10 +367,10 @@ returns-in-Begin c =
         found o a.time a.brought a.cmd.now a.area.now c.in-Begin.is
             (done_timely o a.time a.brought a.cmd.now a.area.now _ tt (sym c.bad_time.ensures ∙ c.if-bad_time.false) (e.fact x a.ranges.now, refl)),
       ),
-    ))
+    )) (rw c.in-Begin.is)
 
 pub returns-in-Next : goal.returns-in-Next
-unfolding call_of area_by fills
+unfolding call_of behind_by area_by fills
 returns-in-Next c =
     named_whole_quiet_result_after_area_after_promised (let a = c.args in
     let p = c.requires in
@@ -382,10 +383,10 @@ returns-in-Next c =
         found o a.time a.brought a.cmd.now a.area.now c.in-Next.is
             (done_timely o a.time a.brought a.cmd.now a.area.now _ tt (sym c.bad_time.ensures ∙ c.if-bad_time.false) (e x a.ranges.now, refl)),
       ),
-    ))
+    )) (rw c.in-Next.is)
 
 pub returns-in-Result : goal.returns-in-Result
-unfolding call_of area_by fills
+unfolding call_of behind_by area_by fills
 returns-in-Result c =
     named_whole_quiet_result_after_area_after_promised (let a = c.args in
     let p = c.requires in
@@ -398,4 +399,4 @@ returns-in-Result c =
         found o a.time a.brought a.cmd.now a.area.now c.in-Result.is
             (done_timely o a.time a.brought a.cmd.now a.area.now _ tt (sym c.bad_time.ensures ∙ c.if-bad_time.false) (e.fact x a.order.now, refl)),
       ),
-    ))
+    )) (rw c.in-Result.is c.result.ensures.behind)

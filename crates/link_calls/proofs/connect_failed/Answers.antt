@@ -1,6 +1,7 @@
 use Rattle.std.specs.Prelude.{[]}
 use mathlib.Core.Path.{refl, sym, ◌∙◌}
 use Rattle.obd2.specs.Answers.{answers, settled_here, settled_next, settled_none}
+use Rattle.obd2.specs.Behind.{behind_by}
 use Rattle.obd2.specs.Core.{with_poller, box_of, refused_is}
 use Rattle.obd2.specs.Done.{link_by, done_of}
 use Rattle.obd2.specs.History.{in_time}
@@ -10,18 +11,22 @@ use Rattle.report.specs.Summary.{none_in}
 use Rattle.link_calls.proofs.connect_failed.Goals as goal
 
 pub returns-then-open : goal.returns-then-open
-unfolding in_time row_refusal rows_of link_rows
+unfolding in_time row_refusal rows_of link_rows behind_by
 returns-then-open c =
-    λ x.
-    let a = c.args in
-    let y = with_poller x (with_ranges x.polling a.ranges.now) in
-    answers (settled_here (box_of y a.core) _ 12 [] (sym c.open.ensures ∙ c.if-open.true) refl (refused_is y a.core _ _ c.refuse.ensures))
+    let a = c.args in record {
+      answers = λ x.
+          let y = with_poller x (with_ranges x.polling a.ranges.now) in
+          answers (settled_here (box_of y a.core) _ 12 [] (sym c.open.ensures ∙ c.if-open.true) refl (refused_is y a.core _ _ c.refuse.ensures));
+      behind = rw c.refuse.ensures;
+    }
 
 pub returns : goal.returns
-unfolding in_time row_refusal rows_of link_rows done_of link_by
+unfolding in_time row_refusal rows_of link_rows done_of link_by behind_by
 returns c =
-    λ x.
-    let a = c.args in
-    let y = with_poller x (with_ranges x.polling a.ranges.now) in
-    answers (settled_next (box_of y a.core) _ 12 [] (sym c.open.ensures ∙ c.if-open.false)
-    (settled_none (box_of y a.core) _ (rw (c.accept.ensures, c.no_notes-notes.ensures, none_in x.pids x.rates, ← c.fail-tried.ensures x.polling))))
+    let a = c.args in record {
+      answers = λ x.
+          let y = with_poller x (with_ranges x.polling a.ranges.now) in
+          answers (settled_next (box_of y a.core) _ 12 [] (sym c.open.ensures ∙ c.if-open.false)
+          (settled_none (box_of y a.core) _ (rw (c.accept.ensures, c.no_notes-notes.ensures, none_in x.pids x.rates, ← c.fail-tried.ensures.result_after x.polling))));
+      behind = rw c.accept.ensures c.fail-tried.ensures.behind;
+    }

@@ -9,5 +9,6 @@ returns c =
       known_len = put_length a.known.now lengths_row l known_rows c.requires;
       result_after = λ x.
           let y = with_connection x a.known.now a.ranges.now in
-          rw (connect_done, lengths_put y l c.requires, plan_lengths y l c.requires, ← c.connect-made.ensures);
+          rw (connect_done, lengths_put y l c.requires, plan_lengths y l c.requires, ← c.connect-made.ensures.result_after);
+      behind = c.connect-made.ensures.behind;
     }

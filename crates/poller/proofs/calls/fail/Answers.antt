@@ -4,4 +4,4 @@ use Rattle.poller.specs.Cases.{fail_done}
 use Rattle.poller.proofs.calls.fail.Goals as goal
 
 pub returns : goal.returns
-returns c = λ x. rw (fail_done, ← c.fail-tried.ensures (get_or x.known lengths_row []))
+returns c = record { result_after = λ x. rw (fail_done, ← c.fail-tried.ensures.result_after (get_or x.known lengths_row [])); behind = c.fail-tried.ensures.behind }
