@@ -8,6 +8,7 @@ use Rattle.std.proofs.Math.Seq.{take_all, take-append-le, take-append-add, take-
 use borrow.Author.Tests.{leb-true, leb-false}
 use Rattle.base.specs.Choice.{cases, pick}
 use Rattle.base.specs.Write.{over, take_over}
+use Rattle.text.specs.Put.{put_of, put_end}
 
 -- The text old with s behind it, as far as there is room for n bytes in all.
 unfoldable pub added : ℕ → List ℕ → List ℕ → List ℕ
@@ -118,3 +119,24 @@ module _ (n : ℕ) (old s : List ℕ) where
   pub whole_full : n < length old + length s → whole n old s ≡ old
   unfolding whole
   whole_full h = rw (lt-leb _ _ h)
+
+-- A text that is written whole where there is room for it is written as far as there is room.
+pub added_whole : {n : ℕ} {old s new : List ℕ} → length old + length s ≤ n → new ≡ whole n old s → Added n old s new
+added_whole {n} {old} {s} {new} h e = record { text_is = e ∙ whole_fits n old s h ∙ sym (added_fits n old s h) }
+
+-- Put into an array of n behind its first so many bytes, the text is whole there, or not there at all.
+pub whole_put : (n : ℕ) (bytes : List ℕ) (len : ℕ) → length bytes ≡ n → len ≤ n → (s : List ℕ)
+    → take (put_end bytes len s) (put_of bytes len s) ≡ whole n (take len bytes) s
+unfolding put_of put_end whole
+whole_put n bytes len full g s =
+    let l : length (take len bytes) ≡ len = length-take-le len bytes (omega arith) in
+    cases _ (leb (len + length s) n)
+    (λ e. let h = leb-true (len + length s) n e in rw (full, l, e) (take_over bytes len s (omega arith)))
+    (λ e. rw (full, l, e))
+
+pub put_within : (n : ℕ) (bytes : List ℕ) (len : ℕ) → length bytes ≡ n → len ≤ n → (s : List ℕ) → put_end bytes len s ≤ n
+unfolding put_end
+put_within n bytes len full g s =
+    cases _ (leb (len + length s) n)
+    (λ e. let h = leb-true (len + length s) n e in rw (full, e) h)
+    (λ e. rw (full, e) g)

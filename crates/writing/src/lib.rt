@@ -1,10 +1,12 @@
-// Texts written one behind the other into fixed memory: each as far as there is room, so that what is written is the start of the
-// whole and all of it where there is room for all, or, by `put_whole`, whole or not at all.
+// Texts written one behind the other, into fixed memory of their own or into lent memory: each as far as there is room, so that what is
+// written is the start of the whole and all of it where there is room for all, or, by `put_whole`, whole or not at all.
 #![tactic(auto)]
 
 ghost use Rattle.std.specs.Prelude.{[], ◌∷◌, ◌≡◌, ◌≤◌, ◌-◌, List, ℕ, length, take};
+ghost use Rattle.hex_text.specs.Pairs.{hex_text};
 ghost use Rattle.numeral.specs.Decimal.{decimal_text};
 ghost use Rattle.writing.specs.Added.{Added, whole};
+ghost use Rattle.writing.specs.Fill.{Wrote};
 
 use std::marker::Model;
 
@@ -86,6 +88,14 @@ impl<const N: usize> Text<N> {
         }
     }
 
+    // Bytes as their pairs of hex digits, all of them or nothing where there is no room for all. At once: digit by digit, each asking
+    // whether there is room, they take several times as long.
+    pub fn pairs_whole(&mut self, s: &[u8])
+        ensures { self.new ≡ whole N self.old (hex_text s.now) }
+    {
+        self.len = hex_text::put(&mut self.bytes, self.len, s);
+    }
+
     // A number's digits.
     pub fn number(&mut self, n: u64)
         ensures { Added N self.old (decimal_text n) self.new }
@@ -94,4 +104,37 @@ impl<const N: usize> Text<N> {
         let end = numeral::put(&mut digits, 0, n);
         self.put(&digits[..end]);
     }
+}
+
+// The same into lent memory of any length, from a place on: `Text` is for who has memory of a fixed length for the text alone.
+
+// One byte at the place `at`, where there is room for it; the place behind it.
+pub fn byte(out: &mut [u8], at: usize, b: u8) -> usize
+    ensures { Wrote out.old at (b ∷ []) out.new result }
+{
+    if at < out.len() {
+        out[at] = b;
+        return at + 1;
+    }
+    at
+}
+
+// A text from the place `at` on, and the place behind it.
+pub fn put(out: &mut [u8], at: usize, s: &[u8]) -> usize
+    ensures { Wrote out.old at s.now out.new result }
+{
+    let mut place = at;
+    for b in s {
+        place = byte(out, place, *b);
+    }
+    place
+}
+
+// A number's digits.
+pub fn number(out: &mut [u8], at: usize, n: u64) -> usize
+    ensures { Wrote out.old at (decimal_text n) out.new result }
+{
+    let mut digits = [0u8; 20];
+    let end = numeral::put(&mut digits, 0, n);
+    put(out, at, &digits[..end])
 }

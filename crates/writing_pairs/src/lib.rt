@@ -22,6 +22,10 @@ pub fn pair<const N: usize>(out: &mut Text<N>, b: u8)
 pub fn pairs<const N: usize>(out: &mut Text<N>, bytes: &[u8])
     ensures { Added N out.old (hex_text bytes.now) out.new }
 {
+    if bytes.len() <= out.room() / 2 {
+        return out.pairs_whole(bytes);
+    }
+    // there is no room for all of them
     for b in bytes {
         pair(out, *b);
     }
