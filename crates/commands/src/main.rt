@@ -25,14 +25,14 @@ fn copy_some<R: Read, W: Write>(
     if n == 0 {
         return Ok(None);
     }
-    let fed = transcript::feed(line, &input[..n], &mut out);
+    let fed = transcript::feed_behind(line, &input[..n], &mut out);
     let next = fed.line;
     writer.write_all(out.as_slice())?;
     Ok(Some(next))
 }
 
 fn write_last<W: Write>(line: Line, writer: &mut W) -> io::Result<()> {
-    let last = transcript::finish(line);
+    let last = transcript::last(line);
     writer.write_all(last.as_slice())
 }
 

@@ -3,11 +3,15 @@ use Rattle.std.specs.Prelude.{List, [], ◌∷◌, ◌++◌, ◌≡◌, ℕ, ◌
 use Rattle.ascii.specs.Chars.{hex_digit}
 use Rattle.base.specs.Choice.{pick}
 use Rattle.base.specs.Letters.{letter, letters}
+use Rattle.base.specs.Write.{over}
 use Rattle.command.specs.Classify.{command_of}
 use Rattle.command.specs.declared.Command.{Command}
 use Rattle.command.specs.declared.Command.TheVariants.{Range, Pid, Unknown}
 use Rattle.transcript.specs.declared.Line.{Line}
+use Rattle.transcript.specs.declared.Text.{Text}
 use Rattle.transcript.specs.declared.Fed.{Fed}
+use Rattle.transcript.specs.declared.Used.{Used}
+use Rattle.transcript.specs.declared.Stepped.{Stepped}
 
 -- The class: `range`, `pid` or `?`.
 unfoldable pub class_name : Command → List ℕ
@@ -35,9 +39,12 @@ unfoldable pub output : List ℕ → List ℕ → List ℕ
 output line [] = last_text line
 output line (b ∷ bs) = pick (eqb b (letter "\n")) (tail_text (command_of line) ++ output [] bs) (b ∷ output (line ++ (b ∷ [])) bs)
 
--- The bytes that a `Line` keeps of its line.
+-- The bytes that a `Line` keeps of its line, and those that a `Text` stands for.
 unfoldable pub kept_of : Line → List ℕ
 kept_of l = take l.kept l.head
+
+unfoldable pub text_of : Text → List ℕ
+text_of t = take t.len t.bytes
 
 unfoldable pub start_line : Line
 start_line = record { head = replicate 6 0; kept = 0 }
@@ -58,6 +65,9 @@ step_text l b = pick (eqb b (letter "\n")) (tail_text (command_of (kept_of l))) 
 unfoldable pub step_line : Line → ℕ → Line
 step_line l b = pick (eqb b (letter "\n")) start_line (keep_of l b)
 
+unfoldable pub stepped_of : Line → ℕ → ℕ → Stepped
+stepped_of l b at = record { line = step_line l b; at = at + length (step_text l b) }
+
 -- What a part of the input writes, and the line after it.
 unfoldable pub part_text : Line → List ℕ → List ℕ
 part_text l [] = []
@@ -71,8 +81,22 @@ part_line l (b ∷ bs) = part_line (step_line l b) bs
 unfoldable pub usable : List ℕ → ℕ → List ℕ
 usable input room = take (min (length input) (room / 9)) input
 
+unfoldable pub used_of : Line → List ℕ → ℕ → Used
+used_of l input room = record { line = part_line l (usable input room); used = length (usable input room) }
+
 unfoldable pub fed_of : Line → List ℕ → ℕ → Fed
-fed_of l input room = record { line = part_line l (usable input room); used = length (usable input room) }
+fed_of l input room =
+    record {
+      line = part_line l (usable input room);
+      used = length (usable input room);
+      written = length (part_text l (usable input room));
+    }
+
+-- The first i bytes of an input are fed: the line then, how much is written, and the lent memory with it.
+pub record Filled (l : Line) (input d : List ℕ) (i : ℕ) (now : Line) (at : ℕ) (out : List ℕ) : Type 0 where
+  pub line_is : now ≡ part_line l (take i input)
+  pub at_is : at ≡ length (part_text l (take i input))
+  pub out_is : out ≡ over d 0 (part_text l (take i input))
 
 -- The first i bytes of an input are fed: the line then, and the text out, which is d with what they wrote behind it.
 pub record Behind (l : Line) (input d : List ℕ) (i : ℕ) (now : Line) (out : List ℕ) : Type 0 where
