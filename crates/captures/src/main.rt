@@ -49,7 +49,7 @@ fn feed_part<const N: usize, W: Write>(
     // A walk: each feed tells how much of the part it used.
     let mut at = 0;
     while at < input.len() {
-        let fed = capture_stream::feed(current, hold, &input[at..], out);
+        let fed = capture_stream::feed_behind(current, hold, &input[at..], out);
         if !flush(out, writer) || fed.used == 0 {
             return Turn::Stuck;
         }
@@ -94,7 +94,7 @@ fn run<const N: usize, R: Read, W: Write>(
         match read_part(reading, hold, out, reader, writer)? {
             Turn::More(after) => reading = after,
             Turn::Ended => {
-                capture_stream::finish(reading, out);
+                capture_stream::finish_behind(reading, out);
                 flush(out, writer);
                 return Ok(());
             }

@@ -1,6 +1,8 @@
 // Bytes and words written into a text as hex digits, one behind the other, as far as there is room.
 #![tactic(auto)]
 
+pub mod memory;
+
 ghost use Rattle.std.specs.Prelude.{[], ◌∷◌, ◌≡◌};
 ghost use Rattle.std.specs.Float.{binary32};
 ghost use Rattle.std.specs.Float.Ieee.{to_bits};
