@@ -28,14 +28,24 @@ use writing::Text;
 // No answer is longer: a call's has at most 4,096 bytes (`answer_room`), that of `show` 8,192 (`show_room`).
 const ANSWER: usize = 16384;
 
+// The room for answers where the caller has no text for them.
+const ANSWERS: usize = 65536;
+
 // The places of the control line.
 pub const WAITING: usize = control_line::places::PLACES;
 
-// The last answer, which has what goes by value of the box, what the calls brought, and the line that is being read.
+// The last answer, which has what goes by value of the box, what the calls brought, and the notes beside them.
 #[derive(Clone, Copy)]
 pub struct Playing {
     pub last: Told,
     pub brought: Brought,
+    pub notes: Notes,
+}
+
+// How many bytes of answers wait in lent memory, and the line that is being read.
+#[derive(Clone, Copy)]
+pub struct Notes {
+    pub waiting: usize,
     pub reading: Reading,
 }
 
@@ -71,10 +81,14 @@ pub fn first(
         settings,
         profiles,
     );
+    let notes = Notes {
+        waiting: 0,
+        reading: lines::start(),
+    };
     Playing {
         last,
         brought,
-        reading: lines::start(),
+        notes,
     }
 }
 
@@ -120,9 +134,9 @@ fn room<const N: usize, W: Write>(out: &mut Text<N>, writer: &mut W) -> io::Resu
     Ok(())
 }
 
-// Answers each line that ends in a part of the input. What goes by value of the box stands in the last answer and goes from it
-// straight into the next call: each place that it is put down in between costs a copy of it.
-pub fn answer_part<const N: usize, W: Write>(
+// Answers each line that ends in a part of the input; the answers are put behind a text. What goes by value of the box stands in the last
+// answer and goes from it straight into the next call: each place that it is put down in between costs a copy of it.
+pub fn answer_behind<const N: usize, W: Write>(
     replies: &mut [[u8; ROW]; 256],
     marks: &mut [[bool; 256]; PLACES],
     table: &mut [[u64; 8]; 256],
@@ -146,7 +160,7 @@ pub fn answer_part<const N: usize, W: Write>(
 {
     let mut last = playing.last;
     let mut brought = playing.brought;
-    let mut reading = playing.reading;
+    let mut reading = playing.notes.reading;
     let mut at = 0;
     // A while: each turn uses as many bytes as its line has.
     while at < input.len() {
@@ -200,9 +214,47 @@ pub fn answer_part<const N: usize, W: Write>(
         }
     }
     flush(out, writer)?;
+    let notes = Notes {
+        waiting: playing.notes.waiting,
+        reading,
+    };
     Ok(Playing {
         last,
         brought,
-        reading,
+        notes,
     })
+}
+
+// The same for who has lent memory in which answers wait: these are written first, so that all come in their order, and none waits
+// behind it.
+pub fn answer_part<W: Write>(
+    replies: &mut [[u8; ROW]; 256],
+    marks: &mut [[bool; 256]; PLACES],
+    table: &mut [[u64; 8]; 256],
+    slots: &mut [[u8; 2]; WAITING],
+    polled: &mut [[u8; 256]; POLLED],
+    known: &mut [[bool; 256]; KNOWN],
+    order: &mut [u8; ORDER],
+    ranges: &mut [[u8; RANGE_ROW]; RANGES],
+    pids: &mut [u8; 256],
+    rates: &mut [f32; 256],
+    mut playing: Playing,
+    input: &[u8],
+    line: &mut [u8],
+    bytes: &mut [u8],
+    area: &mut [u8],
+    out: &mut [u8],
+    writer: &mut W,
+) -> io::Result<Playing>
+    requires { Whole (lent replies.old marks.old table.old slots.old (held polled.old known.old order.old ranges.old) pids.old rates.old) }
+    ensures { Whole (lent replies.new marks.new table.new slots.new (held polled.new known.new order.new ranges.new) pids.new rates.new) }
+{
+    let waiting = playing.notes.waiting.min(out.len());
+    writer.write_all(&out[..waiting])?;
+    playing.notes.waiting = 0;
+    let mut text: Text<ANSWERS> = Text::new();
+    answer_behind(
+        replies, marks, table, slots, polled, known, order, ranges, pids, rates, playing, input,
+        line, bytes, area, &mut text, writer,
+    )
 }

@@ -75,7 +75,7 @@ fn read_part<const N: usize, R: Read, W: Write>(
     let n = reader.read(&mut input)?;
     let m = filled(&mut input, n);
     Ok(Turn {
-        playing: playing::answer_part(
+        playing: playing::answer_behind(
             replies,
             marks,
             table,

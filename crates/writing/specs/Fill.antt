@@ -1,7 +1,7 @@
 -- Texts written one behind the other into lent memory, as far as there is room.
-use Rattle.std.specs.Prelude.{List, [], ◌∷◌, ◌++◌, ◌≡◌, refl, ℕ, ◌+◌, ◌-◌, ◌<◌, ◌≤◌, leb, take, drop, set, get_or}
+use Rattle.std.specs.Prelude.{List, [], ◌∷◌, ◌++◌, ◌≡◌, refl, ℕ, ◌+◌, ◌-◌, ◌<◌, ◌≤◌, leb, take, set}
 use Rattle.std.proofs.Math.Path.{ap}
-use Rattle.std.proofs.Common.{sym, ◌∙◌, add-one, length-append, drop-cons, length-take-le}
+use Rattle.std.proofs.Common.{sym, ◌∙◌, length-append, length-take-le}
 use native.Mathlib.Omega.{arith}
 use Rattle.std.proofs.Math.ListN.{length, length-take}
 use Rattle.std.proofs.Math.Seq.{take_all, take-append-le, take-append-add, take-nil}
@@ -175,7 +175,3 @@ left_last l e w =
 
 pub left_none : {d out : List ℕ} {at place : ℕ} {whole left : List ℕ} → Left d at whole out place left → left ≡ [] → Wrote d at whole out place
 left_none {d} {out} {at} {place} l e = left_last l e (wrote_none out place)
-
--- One byte more of a text.
-pub next_byte : (s : List ℕ) (i : ℕ) → i < length s → drop i s ≡ (get_or s i 0 ∷ []) ++ drop (i + 1) s
-next_byte s i h = rw (drop-cons s i 0 h, add-one i)

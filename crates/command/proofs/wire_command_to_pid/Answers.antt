@@ -19,7 +19,10 @@ returns-in_default-hex_value c =
     pid_low _ c.if-cmd-lt4.false _ c.starts_with.ensures.value c.if-not-starts_with.false _ c.hex_value.ensures _ c.in-Some.is _ c.hex_value-2.ensures c.in_default-hex_value.is
 
 pub overflow_mul-result : goal.overflow_mul-result
-overflow_mul-result c = let h = hex_some _ _ c.hex_value.ensures _ c.in-Some.is in omega arith
+overflow_mul-result c =
+    let h = hex_some _ _ c.hex_value.ensures _ c.in-Some.is in
+    let l = hex_some _ _ c.hex_value-2.ensures _ c.in-Some-hex_value.is in
+    omega arith
 
 pub overflow_add-result : goal.overflow_add-result
 overflow_add-result c =

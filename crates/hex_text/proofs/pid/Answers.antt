@@ -16,7 +16,10 @@ returns-in_err-low c =
     ∙ pid_second _ c.if-s-ne2.false _ c.hex_value.ensures _ c.in_ok-high.was _ c.hex_value-2.ensures c.in_err-low.was
 
 pub overflow_mul-result : goal.overflow_mul-result
-overflow_mul-result c = let h = hex_some _ _ c.hex_value.ensures _ c.in_ok-high.was in omega arith
+overflow_mul-result c =
+    let h = hex_some _ _ c.hex_value.ensures _ c.in_ok-high.was in
+    let l = hex_some _ _ c.hex_value-2.ensures _ c.in_ok-low.was in
+    omega arith
 
 pub overflow_add-result : goal.overflow_add-result
 overflow_add-result c =

@@ -1,5 +1,6 @@
 -- `writing::put` meets its contract. The invariant: what is left of the text.
-use Rattle.writing.specs.Fill.{left_all, left_next, left_none, next_byte}
+use Rattle.writing.specs.Added.{next_byte}
+use Rattle.writing.specs.Fill.{left_all, left_next, left_none}
 use lib.ListN.{drop_of_length-le}
 use native.Mathlib.Omega.{arith}
 use mathlib.Core.Path.{refl}
