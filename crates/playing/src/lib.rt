@@ -3,6 +3,7 @@
 // and `history_show` put the answer together. The box's arrays are lent; what is small of it goes by value.
 #![tactic(auto)]
 
+mod answers;
 mod bringing;
 mod tasks;
 
@@ -12,6 +13,7 @@ ghost use Rattle.dispatch.specs.Dispatch.{Whole};
 ghost use Rattle.obd2.specs.Core.{lent};
 ghost use Rattle.poller.specs.Core.{held, polled_rows, known_rows};
 
+use answers::{Answers, Lent};
 use clients::PLACES;
 use lines::Reading;
 use link::ranges::{RANGE_ROW, RANGES};
@@ -27,9 +29,6 @@ use writing::Text;
 
 // No answer is longer: a call's has at most 4,096 bytes (`answer_room`), that of `show` 8,192 (`show_room`).
 const ANSWER: usize = 16384;
-
-// The room for answers where the caller has no text for them.
-const ANSWERS: usize = 65536;
 
 // The places of the control line.
 pub const WAITING: usize = control_line::places::PLACES;
@@ -103,40 +102,9 @@ fn delivered(call: Call, mut response: Response) -> Response {
     }
 }
 
-// Puts the last answer behind those that wait.
-fn tell<const N: usize>(
-    out: &mut Text<N>,
-    pids: &[u8; 256],
-    rates: &[f32; 256],
-    response: Response,
-    last: Told,
-    area: &[u8],
-)
-    requires pids_len { length pids.now ≡ 256 }
-    requires rates_len { length rates.now ≡ 256 }
-{
-    let answer = last.answer;
-    history_answer::answer(out, pids, rates, answer, last.notes, response, area);
-}
-
-// Writes the answers that wait.
-fn flush<const N: usize, W: Write>(out: &mut Text<N>, writer: &mut W) -> io::Result<()> {
-    writer.write_all(out.as_slice())?;
-    out.clear();
-    Ok(())
-}
-
-// Makes room for one more answer.
-fn room<const N: usize, W: Write>(out: &mut Text<N>, writer: &mut W) -> io::Result<()> {
-    if out.room() < ANSWER {
-        return flush(out, writer);
-    }
-    Ok(())
-}
-
-// Answers each line that ends in a part of the input; the answers are put behind a text. What goes by value of the box stands in the last
-// answer and goes from it straight into the next call: each place that it is put down in between costs a copy of it.
-pub fn answer_behind<const N: usize, W: Write>(
+// Answers each line that ends in a part of the input. What goes by value of the box stands in the last answer and goes from it
+// straight into the next call: each place that it is put down in between costs a copy of it.
+fn play<A: Answers, W: Write>(
     replies: &mut [[u8; ROW]; 256],
     marks: &mut [[bool; 256]; PLACES],
     table: &mut [[u64; 8]; 256],
@@ -152,7 +120,7 @@ pub fn answer_behind<const N: usize, W: Write>(
     line: &mut [u8],
     bytes: &mut [u8],
     area: &mut [u8],
-    out: &mut Text<N>,
+    out: &mut A,
     writer: &mut W,
 ) -> io::Result<Playing>
     requires { Whole (lent replies.old marks.old table.old slots.old (held polled.old known.old order.old ranges.old) pids.old rates.old) }
@@ -179,8 +147,8 @@ pub fn answer_behind<const N: usize, W: Write>(
         }
         match task {
             Task::Nothing => {}
-            Task::Bad => history_answer::bad_line(out),
-            Task::Show => history_show::show(out, table, slots, polled, last.core),
+            Task::Bad => out.bad_line(),
+            Task::Show => out.show(table, slots, polled, last.core),
             Task::Start(asked) => {
                 last = setup_calls::start(
                     replies,
@@ -197,7 +165,7 @@ pub fn answer_behind<const N: usize, W: Write>(
                 );
                 // like a tick, a start brings no response
                 let response = delivered(Call::Tick, brought.response);
-                tell(out, pids, rates, response, last, b"");
+                out.tell(pids, rates, response, last, b"");
             }
             Task::Call(asked) => {
                 let cmd = &bytes[..asked.cmd.min(bytes.len())];
@@ -209,11 +177,11 @@ pub fn answer_behind<const N: usize, W: Write>(
                     last.core, asked.time, call, brought, cmd, room,
                 );
                 let response = delivered(call, brought.response);
-                tell(out, pids, rates, response, last, &area[..m]);
+                out.tell(pids, rates, response, last, &area[..m]);
             }
         }
     }
-    flush(out, writer)?;
+    out.flush(writer)?;
     let notes = Notes {
         waiting: playing.notes.waiting,
         reading,
@@ -225,8 +193,36 @@ pub fn answer_behind<const N: usize, W: Write>(
     })
 }
 
-// The same for who has lent memory in which answers wait: these are written first, so that all come in their order, and none waits
-// behind it.
+// The answers wait in a text.
+pub fn answer_behind<const N: usize, W: Write>(
+    replies: &mut [[u8; ROW]; 256],
+    marks: &mut [[bool; 256]; PLACES],
+    table: &mut [[u64; 8]; 256],
+    slots: &mut [[u8; 2]; WAITING],
+    polled: &mut [[u8; 256]; POLLED],
+    known: &mut [[bool; 256]; KNOWN],
+    order: &mut [u8; ORDER],
+    ranges: &mut [[u8; RANGE_ROW]; RANGES],
+    pids: &mut [u8; 256],
+    rates: &mut [f32; 256],
+    playing: Playing,
+    input: &[u8],
+    line: &mut [u8],
+    bytes: &mut [u8],
+    area: &mut [u8],
+    out: &mut Text<N>,
+    writer: &mut W,
+) -> io::Result<Playing>
+    requires { Whole (lent replies.old marks.old table.old slots.old (held polled.old known.old order.old ranges.old) pids.old rates.old) }
+    ensures { Whole (lent replies.new marks.new table.new slots.new (held polled.new known.new order.new ranges.new) pids.new rates.new) }
+{
+    play(
+        replies, marks, table, slots, polled, known, order, ranges, pids, rates, playing, input,
+        line, bytes, area, out, writer,
+    )
+}
+
+// The answers wait in lent memory of any length, behind those that wait there already; none waits afterwards.
 pub fn answer_part<W: Write>(
     replies: &mut [[u8; ROW]; 256],
     marks: &mut [[bool; 256]; PLACES],
@@ -249,12 +245,14 @@ pub fn answer_part<W: Write>(
     requires { Whole (lent replies.old marks.old table.old slots.old (held polled.old known.old order.old ranges.old) pids.old rates.old) }
     ensures { Whole (lent replies.new marks.new table.new slots.new (held polled.new known.new order.new ranges.new) pids.new rates.new) }
 {
-    let waiting = playing.notes.waiting.min(out.len());
-    writer.write_all(&out[..waiting])?;
+    let mut lent = Lent {
+        out,
+        waiting: playing.notes.waiting,
+        text: Text::new(),
+    };
     playing.notes.waiting = 0;
-    let mut text: Text<ANSWERS> = Text::new();
-    answer_behind(
+    play(
         replies, marks, table, slots, polled, known, order, ranges, pids, rates, playing, input,
-        line, bytes, area, &mut text, writer,
+        line, bytes, area, &mut lent, writer,
     )
 }

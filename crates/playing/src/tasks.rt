@@ -1,11 +1,11 @@
 // What a line asks for, told before what it brings is read.
+use crate::answers::Answers;
 use config::Settings;
 use history_calls::Line;
 use lines::{Fed, Reading};
 use obd2::call::Call;
 use std::io;
 use std::io::Write;
-use writing::Text;
 
 // What a line asks for if the list that it brings is good, that list, and the line that is read now.
 #[derive(Clone, Copy)]
@@ -110,18 +110,18 @@ fn alone(reading: Reading, task: Task) -> Taken {
 }
 
 // What a line asks for that has ended. One that is too long is no call.
-fn read_line<const N: usize, W: Write>(
+fn read_line<A: Answers, W: Write>(
     line: &[u8],
     long: bool,
     bytes: &mut [u8],
-    out: &mut Text<N>,
+    out: &mut A,
     writer: &mut W,
 ) -> io::Result<Taken> {
     let reading = lines::start();
     if !lines::answers(line) {
         return Ok(alone(reading, Task::Nothing));
     }
-    crate::room(out, writer)?;
+    out.make_room(writer)?;
     if long {
         return Ok(alone(reading, Task::Bad));
     }
@@ -136,11 +136,11 @@ fn read_line<const N: usize, W: Write>(
 }
 
 // What is to be done once a part of the input was read, of which `line` is the line.
-pub(crate) fn take_line<const N: usize, W: Write>(
+pub(crate) fn take_line<A: Answers, W: Write>(
     fed: Fed,
     line: &[u8],
     bytes: &mut [u8],
-    out: &mut Text<N>,
+    out: &mut A,
     writer: &mut W,
 ) -> io::Result<Taken> {
     let read = fed.reading;

@@ -5,7 +5,7 @@ use Rattle.lines.specs.Laws.{used_some, used_within}
 use Rattle.lines.specs.Reading.{fed_of}
 use Rattle.lines.specs.declared.Fed.{Fed}
 use Rattle.lines.specs.declared.Reading.{Reading}
-use Rattle.playing.proofs.answer_behind.Goals as goal
+use Rattle.playing.proofs.play.Goals as goal
 
 -- some of what is left of the input is used, and no more
 used : (line : List ℕ) (r : Reading) (input : List ℕ) (at : ℕ) (f : Fed) → at < length input

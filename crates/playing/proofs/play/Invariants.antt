@@ -3,7 +3,7 @@ use Rattle.std.proofs.Common.{◌≡◌, ◌-◌, ◌≤◌, length}
 use Rattle.dispatch.specs.Dispatch.{Whole}
 use Rattle.obd2.specs.Core.{lent}
 use Rattle.poller.specs.Core.{held}
-use Rattle.playing.proofs.answer_behind.Given as goal
+use Rattle.playing.proofs.play.Given as goal
 
 abbrev pub invariant-loop-at : goal.invariant-loop-at
 invariant-loop-at g l =
