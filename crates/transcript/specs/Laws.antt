@@ -90,11 +90,6 @@ module _ (l : Line) (input d : List ℕ) where
         let a = f.at_is in
         rw (f.out_is, over_length d 0 (part_text l (take i input)) (omega arith)) (omega arith)
 
-    pub filled_same : i ≤ length input → 9 * i ≤ length d → length out ≡ length d
-    filled_same h k =
-        let w = written_le h in
-        rw f.out_is (over_length d 0 (part_text l (take i input)) (omega arith))
-
     pub filled_next : i < length input → 9 * (i + 1) ≤ length d
         → Filled l input d (i + 1) (step_line now (get_or input i 0)) (at + length (step_text now (get_or input i 0))) (over out at (step_text now (get_or input i 0)))
     filled_next h k =
